@@ -1,0 +1,42 @@
+-- `marks::with` meets its contract: the mask of bit j is 2 ^ j. Assumes nothing.
+use mathlib.Core.Path.{sym, ap, _∙_}
+use Prim.Native.Nat.{ℕ, _/_, _%_}
+use native.Mathlib.Nat.{one-mul}
+use native.Mathlib.Omega.{arith}
+use lib.Bits.{bitOr}
+use lib.Dec.{lit<}
+use lib.ListN.{getD, set}
+use lib.Pow.{shl-exact}
+use borrow.Author.Needs.{needs}
+use Rattle.marks.specs.Bits.{setBit}
+use Rattle.marks.specs.Marks.{withMark, with-past}
+use Rattle.marks.proofs.with.Statement.{statement}
+use Rattle.marks.proofs.with.Tie as tie
+
+returns : tie.Need-returns
+returns c = sym (with-past (c .before .args .set) (c .before .args .i) (omega arith))
+
+mul-s : tie.Need-mul-s
+mul-s c = search needs
+
+array-read-s : tie.Need-array-read-s
+array-read-s c = search needs
+
+shl-s : tie.Need-shl-s
+shl-s c = search needs
+
+mul-s-2 : tie.Need-mul-s-2
+mul-s-2 c = search needs
+
+array-write-s : tie.Need-array-write-s
+array-write-s c = search needs
+
+returns-2 : tie.Need-returns-2
+unfolding withMark setBit
+returns-2 c =
+    let a = c .before .args in
+    ap (λ (m : ℕ). set (a .set) (a .i / 64) (bitOr (getD (a .set) (a .i / 64) 0) m))
+    (shl-exact 1 (a .i % 64) 64 (lit< tt) (omega arith) ∙ one-mul _)
+
+pub with-spec : {M : Type 1} → statement M
+with-spec = tie.close (tie.spec returns mul-s array-read-s shl-s mul-s-2 array-write-s returns-2)

@@ -1,0 +1,5 @@
+pub mod Bits
+pub mod Marks
+pub mod Size
+pub mod Grown
+pub mod Within
