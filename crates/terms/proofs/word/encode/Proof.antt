@@ -1,0 +1,119 @@
+-- `terms::word::encode` meets its contract, term by term. Assumes nothing.
+use native.Mathlib.Omega.{arith}
+use Rattle.terms.specs.Word.{wordOf}
+use borrow.Author.Needs.{needs}
+use Rattle.terms.proofs.word.encode.Statement.{statement}
+use Rattle.terms.proofs.word.encode.Tie as tie
+
+enum-known-t : tie.Need-enum-known-t
+enum-known-t c = search needs
+
+pack-requires : tie.Need-pack-requires
+pack-requires c κs = search needs
+
+enum-known-t-2 : tie.Need-enum-known-t-2
+enum-known-t-2 c = search needs
+
+cast-result : tie.Need-cast-result
+cast-result c = search needs
+
+add-result : tie.Need-add-result
+add-result c = search needs
+
+enum-known-t-3 : tie.Need-enum-known-t-3
+enum-known-t-3 c = search needs
+
+pack-requires-2 : tie.Need-pack-requires-2
+pack-requires-2 c κs = search needs
+
+enum-known-t-4 : tie.Need-enum-known-t-4
+enum-known-t-4 c = search needs
+
+pack-requires-3 : tie.Need-pack-requires-3
+pack-requires-3 c κs = search needs
+
+enum-known-t-5 : tie.Need-enum-known-t-5
+enum-known-t-5 c = search needs
+
+pack-requires-4 : tie.Need-pack-requires-4
+pack-requires-4 c κs = search needs
+
+enum-known-t-6 : tie.Need-enum-known-t-6
+enum-known-t-6 c = search needs
+
+pack-requires-5 : tie.Need-pack-requires-5
+pack-requires-5 c κs = search needs
+
+enum-known-t-7 : tie.Need-enum-known-t-7
+enum-known-t-7 c = search needs
+
+pack-requires-6 : tie.Need-pack-requires-6
+pack-requires-6 c κs = search needs
+
+enum-told : tie.Need-enum-told
+enum-told c = search needs
+
+pack-requires-7 : tie.Need-pack-requires-7
+pack-requires-7 c κs = search needs
+
+returns : tie.Need-returns
+unfolding wordOf
+returns c = rw (c .before .before .t .given .1) (omega (arith, c .pack .ensures))
+
+returns-2 : tie.Need-returns-2
+unfolding wordOf
+returns-2 c = rw (c .before .t2 .given .1)
+
+returns-3 : tie.Need-returns-3
+unfolding wordOf
+returns-3 c = rw (c .before .before .t3 .given .1) (omega (arith, c .pack2 .ensures))
+
+returns-4 : tie.Need-returns-4
+unfolding wordOf
+returns-4 c = rw (c .before .before .t4 .given .1) (omega (arith, c .pack3 .ensures))
+
+returns-5 : tie.Need-returns-5
+unfolding wordOf
+returns-5 c = rw (c .before .before .t5 .given .1) (omega (arith, c .pack4 .ensures))
+
+returns-6 : tie.Need-returns-6
+unfolding wordOf
+returns-6 c = rw (c .before .before .t6 .given .1) (omega (arith, c .pack5 .ensures))
+
+returns-7 : tie.Need-returns-7
+unfolding wordOf
+returns-7 c = rw (c .before .before .t7 .given .1) (omega (arith, c .pack6 .ensures))
+
+returns-8 : tie.Need-returns-8
+unfolding wordOf
+returns-8 c = rw (c .before .enum-told .given .1) (omega (arith, c .pack7 .ensures))
+
+pub encode-spec : {M : Type 1} → statement M
+encode-spec =
+    tie.close
+    (tie.spec
+    enum-known-t
+    pack-requires
+    enum-known-t-2
+    cast-result
+    add-result
+    enum-known-t-3
+    pack-requires-2
+    enum-known-t-4
+    pack-requires-3
+    enum-known-t-5
+    pack-requires-4
+    enum-known-t-6
+    pack-requires-5
+    enum-known-t-7
+    pack-requires-6
+    enum-told
+    pack-requires-7
+    returns
+    returns-2
+    returns-3
+    returns-4
+    returns-5
+    returns-6
+    returns-7
+    returns-8)

@@ -1,0 +1,47 @@
+-- The answers of the public calls on a lent term table: 10 first, for one that does not hold together.
+-- Assumes nothing.
+use mathlib.Core.Path.{_≡_, sym, ap}
+use mathlib.Core.Bool.{true, false}
+use mathlib.Core.List.{List}
+use Prim.Native.Nat.{ℕ}
+use Rattle.terms.specs.declared.lent.Lookup.{Lookup}
+use Rattle.terms.specs.declared.lent.Lookup.the-variants as lookup
+use Rattle.terms.specs.declared.table.Added.{Added}
+use Rattle.terms.specs.declared.table.Added.the-variants.{Refused}
+use Rattle.terms.specs.declared.table.Found.{Found}
+use Rattle.terms.specs.declared.table.Found.the-variants.{At, Nothing}
+use Rattle.terms.specs.Add.{addedOf}
+use Rattle.terms.specs.Choice.{pick}
+use Rattle.terms.specs.Table.{findOf}
+use Rattle.terms.specs.Valid.{holds}
+
+abbrev pub lookupBy : Found → Lookup
+lookupBy (At i) = lookup.At i
+lookupBy Nothing = lookup.Nothing
+
+-- the number of the term w, or that it is not there
+unfoldable pub lookupOf : (n : ℕ) (ts : List ℕ) (count w : ℕ) → Lookup
+lookupOf n ts count w = pick (holds n ts count) (lookupBy (findOf ts count w)) (lookup.Refused 10)
+
+-- the answer to adding the term w
+unfoldable pub addTermOf : (n : ℕ) (ts : List ℕ) (count w : ℕ) → Added
+addTermOf n ts count w = pick (holds n ts count) (addedOf n ts count w) (Refused 10)
+
+-- ---- by what the check says
+
+module _ (n : ℕ) (ts : List ℕ) (count w : ℕ) where
+  pub lookup-bad : holds n ts count ≡ false → lookup.Refused 10 ≡ lookupOf n ts count w
+  unfolding lookupOf
+  lookup-bad e = rw e
+
+  pub lookup-by : holds n ts count ≡ true → {f : Found} → findOf ts count w ≡ f → lookupBy f ≡ lookupOf n ts count w
+  unfolding lookupOf
+  lookup-by e f = rw e (ap lookupBy (sym f))
+
+  pub add-term-bad : holds n ts count ≡ false → Refused 10 ≡ addTermOf n ts count w
+  unfolding addTermOf
+  add-term-bad e = rw e
+
+  pub add-term-by : holds n ts count ≡ true → {a : Added} → a ≡ addedOf n ts count w → a ≡ addTermOf n ts count w
+  unfolding addTermOf
+  add-term-by e p = rw e p

@@ -1,0 +1,11 @@
+pub mod Choice
+pub mod Message
+pub mod Descend
+pub mod Word
+pub mod Rules
+pub mod Table
+pub mod Valid
+pub mod Meaning
+pub mod Add
+pub mod Lent
+pub mod Number
