@@ -1,0 +1,69 @@
+-- `messages::draft::draft_fits` meets its contract. The invariant: the nodes passed fit. Assumes nothing.
+use borrow.Author.Needs.{needs}
+use borrow.Author.Tests.{not-true, not-false}
+use mathlib.Core.Bool.{true}
+use mathlib.Core.Path.{_≡_, sym, ap, _∙_}
+use native.Mathlib.Omega.{arith}
+use Prim.Native.Nat.{_≤_, _-_}
+use Rattle.terms.specs.Choice.{is-false, no-true}
+use Rattle.messages.specs.Draft.{nodesFit, fits-at, fits-none, fits-more, fits-all}
+use Rattle.messages.proofs.draft.draft_fits.Statement.{statement}
+use Rattle.messages.proofs.draft.draft_fits.Tie as tie
+
+abbrev Inv-loop : tie.InvT-loop
+Inv-loop n count draft k₀ k = (k ≤ 16) × (nodesFit n count draft k ≡ true)
+
+abbrev μ-loop : tie.MeasureT-loop
+μ-loop n count draft k₀ k = 16 - k
+
+loop-holds : tie.Need-loop-holds Inv-loop μ-loop
+loop-holds c = (search needs, fits-none _ _ _)
+
+mul-node : tie.Need-mul-node Inv-loop μ-loop
+mul-node c = search needs
+
+array-copy-out-node : tie.Need-array-copy-out-node Inv-loop μ-loop
+array-copy-out-node c = search needs
+
+node-fits-requires : tie.Need-node-fits-requires Inv-loop μ-loop
+node-fits-requires c κs = search needs
+
+returns : tie.Need-returns Inv-loop μ-loop
+returns c =
+    let a = c .before .before .before .before .before .args in
+    let k = c .before .before .before .before .loop .k in
+    is-false _ (λ e. no-true (sym (not-true _ (c .if1 .taken)) ∙ c .before .node-fits .ensures ∙ fits-at (a .n) (a .count) (a .t1) e k (omega arith)))
+
+add-k : tie.Need-add-k Inv-loop μ-loop
+add-k c = search needs
+
+loop-less : tie.Need-loop-less Inv-loop μ-loop
+loop-less c = search needs
+
+loop-again : tie.Need-loop-again Inv-loop μ-loop
+loop-again c =
+    let a = c .before .before .before .before .before .args in
+    let k = c .before .before .before .before .loop .k in
+    (search needs, fits-more (a .n) (a .count) (a .t1) k (c .before .before .before .before .loop .inv .1) (sym (c .before .node-fits .ensures) ∙ not-false _ (c .if1 .left)))
+
+returns-2 : tie.Need-returns-2 Inv-loop μ-loop
+returns-2 c =
+    let a = c .before .before .args in
+    let last : c .before .loop .k ≡ 16 = omega arith in
+    sym (sym (fits-all (a .n) (a .count) (a .t1)) ∙ ap (nodesFit (a .n) (a .count) (a .t1)) (sym last) ∙ c .before .loop .inv .1)
+
+pub draft-fits-spec : {M : Type 1} → statement M
+draft-fits-spec =
+    tie.close
+    (tie.spec
+    Inv-loop
+    μ-loop
+    loop-holds
+    mul-node
+    array-copy-out-node
+    node-fits-requires
+    returns
+    add-k
+    loop-less
+    loop-again
+    returns-2)

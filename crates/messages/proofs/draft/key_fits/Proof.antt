@@ -1,0 +1,19 @@
+-- `messages::draft::key_fits` meets its contract, case by case. Assumes nothing.
+use borrow.Author.Needs.{needs}
+use Rattle.messages.proofs.draft.key_fits.Statement.{statement}
+use Rattle.messages.proofs.draft.key_fits.Tie as tie
+
+enum-known-key : tie.Need-enum-known-key
+enum-known-key c = search needs
+
+enum-known-key-2 : tie.Need-enum-known-key-2
+enum-known-key-2 c = search needs
+
+returns : tie.Need-returns
+returns c = rw (c .before .key .given .1)
+
+returns-2 : tie.Need-returns-2
+returns-2 c = rw (c .before .key2 .given .1)
+
+pub key-fits-spec : {M : Type 1} → statement M
+key-fits-spec = tie.close (tie.spec enum-known-key enum-known-key-2 returns returns-2)

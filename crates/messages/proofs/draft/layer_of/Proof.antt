@@ -1,0 +1,88 @@
+-- `messages::draft::layer_of` meets its contract, case by case. Assumes nothing.
+use mathlib.Core.Path.{ap}
+use Rattle.messages.specs.declared.draft.Layer.the-variants as layers
+use Prim.Native.Nat.{ℕ}
+use borrow.Author.Needs.{needs}
+use Rattle.messages.proofs.draft.layer_of.Statement.{statement}
+use Rattle.messages.proofs.draft.layer_of.Tie as tie
+
+enum-known-node : tie.Need-enum-known-node
+enum-known-node c = search needs
+
+encode-requires : tie.Need-encode-requires
+encode-requires c κs = search needs
+
+enum-known-node-2 : tie.Need-enum-known-node-2
+enum-known-node-2 c = search needs
+
+encode-requires-2 : tie.Need-encode-requires-2
+encode-requires-2 c κs = search needs
+
+enum-known-node-3 : tie.Need-enum-known-node-3
+enum-known-node-3 c = search needs
+
+encode-requires-3 : tie.Need-encode-requires-3
+encode-requires-3 c κs = search needs
+
+enum-known-node-4 : tie.Need-enum-known-node-4
+enum-known-node-4 c = search needs
+
+key-word-requires : tie.Need-key-word-requires
+key-word-requires c κs = search needs
+
+enum-known-node-5 : tie.Need-enum-known-node-5
+enum-known-node-5 c = search needs
+
+enum-known-node-6 : tie.Need-enum-known-node-6
+enum-known-node-6 c = search needs
+
+key-word-requires-2 : tie.Need-key-word-requires-2
+key-word-requires-2 c κs = search needs
+
+enum-known-node-7 : tie.Need-enum-known-node-7
+enum-known-node-7 c = search needs
+
+returns : tie.Need-returns
+returns c = rw (c .before .before .node .given .1) (ap layers.Atom (c .encode .ensures))
+
+returns-2 : tie.Need-returns-2
+returns-2 c = rw (c .before .before .node2 .given .1) (ap layers.Atom (c .encode2 .ensures))
+
+returns-3 : tie.Need-returns-3
+returns-3 c = rw (c .before .before .node3 .given .1) (ap layers.Atom (c .encode3 .ensures))
+
+returns-4 : tie.Need-returns-4
+returns-4 c = rw (c .before .before .node4 .given .1) (ap layers.Atom (c .key-word .ensures))
+
+returns-5 : tie.Need-returns-5
+returns-5 c = rw (c .before .node5 .given .1)
+
+returns-6 : tie.Need-returns-6
+returns-6 c = rw (c .before .before .node6 .given .1) (ap (λ (w : ℕ). layers.Encrypted (c .before .before .node6 .given .0 .0) w) (c .key-word2 .ensures))
+
+returns-7 : tie.Need-returns-7
+returns-7 c = rw (c .before .node7 .given .1)
+
+pub layer-of-spec : {M : Type 1} → statement M
+layer-of-spec =
+    tie.close
+    (tie.spec
+    enum-known-node
+    encode-requires
+    enum-known-node-2
+    encode-requires-2
+    enum-known-node-3
+    encode-requires-3
+    enum-known-node-4
+    key-word-requires
+    enum-known-node-5
+    enum-known-node-6
+    key-word-requires-2
+    enum-known-node-7
+    returns
+    returns-2
+    returns-3
+    returns-4
+    returns-5
+    returns-6
+    returns-7)

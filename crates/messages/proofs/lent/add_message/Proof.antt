@@ -1,0 +1,128 @@
+-- `messages::lent::add_message` meets its contract, by the law for each way out. Assumes nothing.
+use mathlib.Core.Bool.{true}
+use mathlib.Core.Path.{_≡_, refl, sym, _∙_}
+use Prim.Native.Nat.{_<_, _≤_}
+use native.Mathlib.Omega.{arith}
+use borrow.Author.Tests.{not-true, not-false}
+use lib.ListN.{length}
+use Rattle.terms.specs.Valid.{holds, holds-valid}
+use Rattle.messages.specs.Draft.{draftFits}
+use Rattle.messages.specs.Lent.{start-ready, bad-tables, bad-root, bad-draft, too-many, all-fit, table-with}
+use Rattle.messages.specs.Planning.{few}
+use borrow.Author.Needs.{needs}
+use Rattle.messages.proofs.lent.add_message.Statement.{statement}
+use Rattle.messages.proofs.lent.add_message.Tie as tie
+
+-- ---- what is known on the way
+
+held : (c : tie.Else1) → let a = c .before .before .before .before .args in holds (a .n) (a .terms .now) (a .count) ≡ true
+held c = sym (c .before .holds-together .ensures) ∙ not-false _ (c .if1 .left)
+
+inside : (c : tie.Else2) → c .before .before .before .before .before .args .root < 16
+inside c = omega arith
+
+fitting : (c : tie.Else3) → let a = c .before .before .before .before .before .before .before .args in draftFits (a .n) (a .count) (a .draft) ≡ true
+fitting c = sym (c .before .draft-fits .ensures) ∙ not-false _ (c .if3 .left)
+
+numbers : (c : tie.After-fresh) → length (c .fresh .result .numbers) ≡ 16
+numbers c = search needs
+
+words : (c : tie.After-struct-known) → length (c .before .before .plan-node .result .plan .words) ≡ 32
+words c = search needs
+
+planned : (c : tie.After-struct-known) → let q = c .before .before .plan-node .result .plan in q .count ≤ length (q .words)
+planned c = omega (arith, words c, few (c .before .before .plan-node .ensures .again))
+
+-- ---- the needs
+
+holds-together-requires : tie.Need-holds-together-requires
+holds-together-requires c κs = search needs
+
+same-length : tie.Need-same-length
+same-length c = search needs
+
+returns : tie.Need-returns
+returns c = let a = c .before .before .before .before .args in (bad-tables (a .n) (a .terms .now) (a .count) (a .draft) (a .root) (sym (c .before .holds-together .ensures) ∙ not-true _ (c .if1 .taken)), refl)
+
+same-length-2 : tie.Need-same-length-2
+same-length-2 c = search needs
+
+returns-2 : tie.Need-returns-2
+returns-2 c = let a = c .before .before .before .before .before .args in (bad-root (a .n) (a .terms .now) (a .count) (a .draft) (a .root) (held (c .before)) (omega arith), refl)
+
+draft-fits-requires : tie.Need-draft-fits-requires
+draft-fits-requires c κs = search needs
+
+same-length-3 : tie.Need-same-length-3
+same-length-3 c = search needs
+
+returns-3 : tie.Need-returns-3
+returns-3 c =
+    let a = c .before .before .before .before .before .before .before .args in
+    (bad-draft (a .n) (a .terms .now) (a .count) (a .draft) (a .root) (held (c .before .before .before)) (inside (c .before .before)) (sym (c .before .draft-fits .ensures) ∙ not-true _ (c .if3 .taken)), refl)
+
+fresh-requires : tie.Need-fresh-requires
+fresh-requires c κs = search needs
+
+plan-node-requires : tie.Need-plan-node-requires
+plan-node-requires c κs =
+    let e = c .before .before in
+    (start-ready (omega arith) (held (e .before .before .before)) (fitting e) (c .fresh .ensures) (numbers c), inside (e .before .before))
+
+add-all : tie.Need-add-all
+add-all c =
+    let e = c .before .before .before .before .before in
+    let a = e .before .before .before .before .before .before .before .args in
+    let v = holds-valid (a .n) (a .terms .now) (a .count) (held (e .before .before .before)) in
+    record { fits = omega (arith, few (c .before .before .plan-node .ensures .again), v .room) }
+
+same-length-4 : tie.Need-same-length-4
+same-length-4 c = search needs
+
+returns-4 : tie.Need-returns-4
+returns-4 c =
+    let e = c .before .before .before .before .before .before in
+    let a = e .before .before .before .before .before .before .before .args in
+    (too-many (a .n) (a .terms .now) (a .count) (a .draft) (a .root) (held (e .before .before .before)) (inside (e .before .before)) (fitting e) (c .before .before .before .before .fresh .ensures) (c .before .before .before .plan-node .ensures) (planned (c .before)) (omega arith), refl)
+
+write-plan-requires : tie.Need-write-plan-requires
+write-plan-requires c κs =
+    let e = c .before .before .before .before .before .before .before in
+    let a = e .before .before .before .before .before .before .before .args in
+    let v = holds-valid (a .n) (a .terms .now) (a .count) (held (e .before .before .before)) in
+    (v .size, omega arith, few (c .before .before .before .before .plan-node .ensures .again))
+
+same-length-5 : tie.Need-same-length-5
+same-length-5 c = search needs
+
+returns-5 : tie.Need-returns-5
+returns-5 c =
+    let e = c .before .before .before .before .before .before .before .before .before .before in
+    let a = e .before .before .before .before .before .before .before .args in
+    let p = c .before .before .before .before .before .before .before .plan-node .ensures in
+    let f = c .before .before .before .before .before .before .before .before .fresh .ensures in
+    let w = planned (c .before .before .before .before .before) in (
+      all-fit (a .n) (a .terms .now) (a .count) (a .draft) (a .root) (held (e .before .before .before)) (inside (e .before .before)) (fitting e) f p w (omega arith),
+      c .before .before .write-plan .ensures ∙ table-with (a .n) (a .terms .now) (a .count) (a .draft) (a .root) (held (e .before .before .before)) (inside (e .before .before)) (fitting e) f p w,
+    )
+
+pub add-message-spec : {M : Type 1} → statement M
+add-message-spec =
+    tie.close
+    (tie.spec
+    holds-together-requires
+    same-length
+    returns
+    same-length-2
+    returns-2
+    draft-fits-requires
+    same-length-3
+    returns-3
+    fresh-requires
+    plan-node-requires
+    add-all
+    same-length-4
+    returns-4
+    write-plan-requires
+    same-length-5
+    returns-5)

@@ -1,0 +1,84 @@
+-- `messages::plan::write_plan` meets its contract. The invariant: the first i words are written. Assumes nothing.
+use borrow.Author.Needs.{needs}
+use mathlib.Core.List.{List}
+use mathlib.Core.Path.{_≡_, refl, sym, ap, _∙_}
+use Prim.Native.Nat.{ℕ, _+_, _≤_, _-_}
+use native.Mathlib.Numerals.{add-one}
+use native.Mathlib.Omega.{arith}
+use lib.ListN.{length, getD, set, length-set}
+use lib.Seq.{paste, paste-zero, paste-suc}
+use Rattle.messages.proofs.plan.write_plan.Statement.{statement}
+use Rattle.messages.proofs.plan.write_plan.Tie as tie
+
+abbrev Inv-loop : tie.InvT-loop
+Inv-loop terms₀ count planned words i₀ terms i = (i ≤ planned) × (length terms ≡ length terms₀) × (terms ≡ paste terms₀ count words i)
+
+abbrev μ-loop : tie.MeasureT-loop
+μ-loop terms₀ count planned words i₀ terms i = planned - i
+
+places : (c : tie.At-loop Inv-loop μ-loop) → length (c .before .before .args .plan .words) ≡ 32
+places c = search needs
+
+loop-holds : tie.Need-loop-holds Inv-loop μ-loop
+loop-holds c = (search needs, refl, paste-zero (c .before .args .terms .now) (c .before .args .count) (c .before .args .plan .words))
+
+mul-terms : tie.Need-mul-terms Inv-loop μ-loop
+mul-terms c = search needs
+
+array-read-terms : tie.Need-array-read-terms Inv-loop μ-loop
+array-read-terms c = search needs
+
+add-terms : tie.Need-add-terms Inv-loop μ-loop
+add-terms c = search needs
+
+mul-terms-2 : tie.Need-mul-terms-2 Inv-loop μ-loop
+mul-terms-2 c = search needs
+
+slice-write-terms : tie.Need-slice-write-terms Inv-loop μ-loop
+slice-write-terms c = search needs
+
+add-i : tie.Need-add-i Inv-loop μ-loop
+add-i c = search needs
+
+loop-less : tie.Need-loop-less Inv-loop μ-loop
+loop-less c = search needs
+
+loop-again : tie.Need-loop-again Inv-loop μ-loop
+loop-again c =
+    let a = c .before .before .before .args in
+    let at = c .before .loop in
+    let d = a .terms .now in
+    let w = a .plan .words in (
+      search needs,
+      length-set (at .terms) (a .count + at .i) (getD w (at .i) 0) ∙ at .inv .1,
+      ap (λ (l : List ℕ). set l (a .count + at .i) (getD w (at .i) 0)) (at .inv .2)
+          ∙ paste-suc d (a .count) w (at .i) 0 (omega arith) (omega (arith, places (c .before)))
+          ∙ ap (λ (n : ℕ). paste d (a .count) w n) (sym (add-one (at .i))),
+    )
+
+same-length : tie.Need-same-length Inv-loop μ-loop
+same-length c = search needs
+
+returns : tie.Need-returns Inv-loop μ-loop
+returns c =
+    let a = c .before .before .before .args in
+    let last : c .before .loop .i ≡ a .plan .count = omega arith in
+    c .before .loop .inv .2 ∙ ap (λ (n : ℕ). paste (a .terms .now) (a .count) (a .plan .words) n) last
+
+pub write-plan-spec : {M : Type 1} → statement M
+write-plan-spec =
+    tie.close
+    (tie.spec
+    Inv-loop
+    μ-loop
+    loop-holds
+    mul-terms
+    array-read-terms
+    add-terms
+    mul-terms-2
+    slice-write-terms
+    add-i
+    loop-less
+    loop-again
+    same-length
+    returns)

@@ -1,0 +1,336 @@
+-- Planning a node, by what its layer is: each way out of the recursion keeps the plan ready, and what it plans is the
+-- node's message, entered.
+-- Assumes nothing.
+use mathlib.Core.Path.{_≡_, refl, sym, ap, ap₂, _∙_, subst}
+use mathlib.Core.Bool.{true}
+use mathlib.Core.List.{List, [], _∷_}
+use Prim.Native.Nat.{ℕ, zero, suc, _+_, _-_, _<_, _≤_}
+use native.Mathlib.Decide.{ℕ-discrete}
+use native.Mathlib.Nat.{le-of-suc-le-suc, not-suc-le-zero}
+use native.Mathlib.Numerals.{add-one}
+use native.Mathlib.Omega.{arith}
+use borrow.Author.Tests.{ltb-true}
+use lib.Dec.{ltb}
+use lib.ListN.{length, getD, take, set, length-append, length-take, length-set, List·getD-append}
+use lib.Seq.{length-take-le, getD-take, getD-set-same, getD-set-other}
+use Rattle.messages.specs.declared.draft.DraftKey.{DraftKey}
+use Rattle.messages.specs.declared.draft.DraftKey.the-variants.{LongTerm, Session}
+use Rattle.messages.specs.declared.draft.Layer.{Layer}
+use Rattle.messages.specs.declared.draft.Layer.the-variants as layer
+use Rattle.messages.specs.declared.draft.Node.{Node}
+use Rattle.messages.specs.declared.draft.Node.the-variants as node
+use Rattle.messages.specs.declared.plan.Plan.{Plan}
+use Rattle.terms.specs.declared.table.Found.{Found}
+use Rattle.terms.specs.declared.table.Found.the-variants.{At, Nothing}
+use Rattle.terms.specs.declared.word.Term.the-variants.{Pair, Encrypted}
+use Rattle.terms.specs.Choice.{both-true}
+use Rattle.terms.specs.Meaning.{messageAt, messages-same}
+use Rattle.terms.specs.Message.{Key, Message, key, pair, encrypted}
+use Rattle.terms.specs.Number.{place, placeBy, keyWord, wordIn, numberIn}
+use Rattle.terms.specs.Table.{findOf, FoundIs, found-is}
+use Rattle.terms.specs.Valid.{Terms}
+use Rattle.terms.specs.Word.{wordOf}
+use Rattle.messages.specs.Draft.{keyName, nodeMessage, nodeAt, nodeFits, keyFits, layerOf, wordOfKey, fits-at, draft-at}
+use Rattle.messages.specs.Entered.{withWord, withTerm, entered}
+use Rattle.messages.specs.Plan.{known, drafted, noted, NoteIs, Ready, WordPlanned, NodePlanned, withNote}
+use Rattle.messages.specs.Standing.{Standing, EnteredIs, Longer, longer-trans, longer-with, longer-entered, standing-longer, standing-number, key-entered, entered-is, entered-present, KeyFits, Writes}
+use Rattle.messages.specs.Writes.{draft-writes}
+
+-- ---- properties of `noted`
+
+noted-suc : (v : ℕ) (vs : List ℕ) → 0 < v → noted (v ∷ vs) ≡ suc (noted vs)
+unfolding noted
+noted-suc zero vs h = absurd (omega arith)
+noted-suc (suc v) vs h = refl
+
+noted-rest : (v : ℕ) (vs : List ℕ) → noted (v ∷ vs) ≤ suc (noted vs)
+unfolding noted
+noted-rest zero vs = omega arith
+noted-rest (suc v) vs = omega arith
+
+noted-le : (vs : List ℕ) → noted vs ≤ length vs
+unfolding noted
+noted-le [] = omega arith
+noted-le (v ∷ vs) = omega (arith, noted-rest v vs, noted-le vs)
+
+-- a node that is not noted yet leaves room, and is noted once
+noted-room : (vs : List ℕ) (k : ℕ) → k < length vs → getD vs k 0 ≡ 0 → noted vs < length vs
+unfolding noted
+noted-room [] k h e = absurd (not-suc-le-zero h)
+noted-room (zero ∷ vs) zero h e = omega (arith, noted-le vs)
+noted-room (suc v ∷ vs) zero h e = absurd (omega arith)
+noted-room (v ∷ vs) (suc k) h e = omega (arith, noted-rest v vs, noted-room vs k (le-of-suc-le-suc h) e)
+
+noted-set : (vs : List ℕ) (k v : ℕ) → k < length vs → getD vs k 0 ≡ 0 → noted (set vs k (suc v)) ≡ suc (noted vs)
+unfolding noted
+noted-set [] k v h e = absurd (not-suc-le-zero h)
+noted-set (zero ∷ vs) zero v h e = refl
+noted-set (suc x ∷ vs) zero v h e = absurd (omega arith)
+noted-set (zero ∷ vs) (suc k) v h e = noted-set vs k v (le-of-suc-le-suc h) e
+noted-set (suc x ∷ vs) (suc k) v h e = ap suc (noted-set vs k v (le-of-suc-le-suc h) e)
+
+-- ---- notes stay true
+
+note-longer : {n : ℕ} {xs ys : List ℕ} → Terms n xs (length xs) → Longer xs ys → (m : Message) (v : ℕ) → NoteIs xs m v → NoteIs ys m v
+note-longer v x m zero s = tt
+note-longer v x m (suc i) s = standing-longer v x s
+
+known-small : (ts : List ℕ) (count : ℕ) (p : Plan) → length (known ts count p) ≤ count + p .count
+known-small ts count p =
+    omega (arith, length-append (take count ts) (take (p .count) (p .words)), take-le count ts, take-le (p .count) (p .words))
+  where
+    take-le : (m : ℕ) (l : List ℕ) → length (take m l) ≤ m
+    take-le m l = simp length-take (omega arith)
+
+-- the number at which an entered message stands
+at-number : {n : ℕ} {xs ys : List ℕ} {m : Message} → EnteredIs n xs ys m → (number : ℕ) → number ≡ numberIn ys m → Standing ys m number
+at-number {ys = ys} {m = m} e number q = subst (Standing ys m) (sym (standing-number (e .extends .terms) (e .stands)) ∙ sym q) (e .stands)
+
+-- ---- what a layer says of the message
+
+-- a message without operands, by its word
+pub record Atomic (m : Message) (w : ℕ) : Type 0 where
+  pub enters : (xs : List ℕ) → entered xs m ≡ withWord xs w
+  pub word : (xs : List ℕ) → wordIn xs m ≡ w
+
+abbrev LayerIs : (count k : ℕ) (stored sub : ℕ → Message) → Layer → Message → Type 0
+LayerIs count k stored sub (layer.Stored i) m = (i < count) × (m ≡ stored i)
+LayerIs count k stored sub (layer.Atom w) m = Atomic m w
+LayerIs count k stored sub (layer.Pair l r) m = (l < k) × (r < k) × (m ≡ pair (sub l) (sub r))
+LayerIs count k stored sub (layer.Encrypted b w) m = (b < k) × ((x : Key) × (m ≡ encrypted (sub b) x) × (w ≡ keyWord x))
+
+key-word : (x : DraftKey) → wordOfKey x ≡ keyWord (keyName x)
+key-word (LongTerm p) = refl
+key-word (Session i) = refl
+
+layer-is : (n count k : ℕ) (stored sub : ℕ → Message) (x : Node) → nodeFits n count k x ≡ true → LayerIs count k stored sub (layerOf x) (nodeMessage stored sub x)
+unfolding entered wordIn
+layer-is n count k stored sub (node.Principal p) e = record { enters = λ xs. refl; word = λ xs. refl }
+layer-is n count k stored sub (node.Time t) e = record { enters = λ xs. refl; word = λ xs. refl }
+layer-is n count k stored sub (node.Nonce i) e = record { enters = λ xs. refl; word = λ xs. refl }
+layer-is n count k stored sub (node.Key x) e = record { enters = λ xs. ap (withWord xs) (sym (key-word x)); word = λ xs. sym (key-word x) }
+layer-is n count k stored sub (node.Pair l r) e =
+    let b = both-true (ltb l k) (ltb r k) e in
+    (ltb-true l k (b .0), ltb-true r k (b .1), refl)
+layer-is n count k stored sub (node.Encrypted b x) e =
+    (ltb-true b k (both-true (ltb b k) (keyFits n x) e .0), (keyName x, refl, key-word x))
+layer-is n count k stored sub (node.Stored i) e = (ltb-true i count e, refl)
+
+-- the word of a pair, and of an encryption, of parts that stand at i and j
+pair-word : {n : ℕ} {zs : List ℕ} → Terms n zs (length zs) → {a b : Message} {i j : ℕ} → Standing zs a i → Standing zs b j → wordIn zs (pair a b) ≡ wordOf (Pair i j)
+unfolding wordIn
+pair-word v sa sb = ap₂ (λ (x y : ℕ). wordOf (Pair x y)) (standing-number v sa) (standing-number v sb)
+
+encrypted-word : {n : ℕ} {zs : List ℕ} → Terms n zs (length zs) → {m : Message} {x : Key} {i j : ℕ} → Standing zs m i → Standing zs (key x) j
+    → wordIn zs (encrypted m x) ≡ wordOf (Encrypted i j)
+unfolding wordIn
+encrypted-word v sm sk = ap₂ (λ (x y : ℕ). wordOf (Encrypted x y)) (standing-number v sm) (standing-number v sk)
+
+-- ---- a plan that is ready
+
+module _ {ts : List ℕ} {count : ℕ} {draft : List Node} {p : Plan} (R : Ready ts count draft p) (k : ℕ) (hk : k < 16) where
+  -- the plan q, which holds the message of node k, with the node noted; it was made from p₁, a later plan than p
+  noting : (p₁ q : Plan) (number : ℕ) → Ready ts count draft p₁ → getD (p₁ .numbers) k 0 ≡ 0
+      → ((j : ℕ) → k < j → getD (p₁ .numbers) j 0 ≡ getD (p .numbers) j 0) → q .numbers ≡ p₁ .numbers → q .count ≤ p₁ .count + 2
+      → Longer (known ts count p₁) (known ts count q) → Standing (known ts count q) (drafted ts draft k) number → Terms (R .n) (known ts count q) (length (known ts count q))
+      → known ts count q ≡ entered (known ts count p) (drafted ts draft k) → NodePlanned ts count draft k p number (withNote q k number)
+  noting p₁ q number R₁ unseen later numbers few longer stands v terms =
+      record {
+        again =
+            record {
+              n = R .n;
+              small = R .small;
+              table = R .table;
+              fits = R .fits;
+              terms = v;
+              size = length-set (q .numbers) k (number + 1) ∙ ap length numbers ∙ R₁ .size;
+              room = rw (numbers, add-one, noted-set (p₁ .numbers) k number (omega (arith, R₁ .size)) unseen) (omega (arith, R₁ .room));
+              notes = λ j h. note j h (ℕ-discrete j k);
+            };
+        terms = terms;
+        number-is = sym (standing-number v stands);
+        later = λ j h. getD-set-other (q .numbers) k j (number + 1) 0 (λ e. omega arith) ∙ ap (λ (l : List ℕ). getD l j 0) numbers ∙ later j h;
+      }
+    where
+      note : (j : ℕ) → j < 16 → Dec (j ≡ k) → NoteIs (known ts count q) (drafted ts draft j) (getD (set (q .numbers) k (number + 1)) j 0)
+      note j h (yes e) = rw (e, getD-set-same (q .numbers) k (number + 1) 0 (omega (arith, ap length numbers, R₁ .size)), add-one) stands
+      note j h (no ne) =
+          rw (getD-set-other (q .numbers) k j (number + 1) 0 ne, numbers) (note-longer (R₁ .terms) longer (drafted ts draft j) (getD (p₁ .numbers) j 0) (R₁ .notes j h))
+
+  layered : {L : Layer} → layerOf (nodeAt draft k) ≡ L → LayerIs count k (messageAt ts) (drafted ts draft) L (drafted ts draft k)
+  layered e =
+      subst (λ (l : Layer). LayerIs count k (messageAt ts) (drafted ts draft) l (drafted ts draft k)) e
+      (subst (LayerIs count k (messageAt ts) (drafted ts draft) (layerOf (nodeAt draft k))) (sym (draft-at (messageAt ts) (R .n) count draft (R .fits) k hk))
+      (layer-is (R .n) count k (messageAt ts) (drafted ts draft) (nodeAt draft k) (fits-at (R .n) count draft (R .fits) k hk)))
+
+  -- what holds once the message of node k is entered into terms that keep the rules
+  entry : (xs : List ℕ) → Terms (R .n) xs (length xs) → (q : Plan) → q .count ≤ 64 → known ts count q ≡ entered xs (drafted ts draft k)
+      → EnteredIs (R .n) xs (known ts count q) (drafted ts draft k)
+  entry xs v q h e =
+      subst (λ (l : List ℕ). EnteredIs (R .n) xs l (drafted ts draft k)) (sym e)
+      (entered-is (R .small) (drafted ts draft k) (draft-writes (R .table) draft (R .fits) k hk) xs v
+      (omega (arith, ap length e, known-small ts count q, R .table .room)))
+
+  -- a node that was looked at before
+  seen-by : (v : ℕ) → NoteIs (known ts count p) (drafted ts draft k) v → (v ≡ 0 → ⊥) → NodePlanned ts count draft k p (v - 1) p
+  seen-by zero s ne = absurd (ne refl)
+  seen-by (suc i) s ne =
+      let e : suc i - 1 ≡ i = omega arith in
+      record {
+        again = R;
+        terms = sym (entered-present (R .terms) (drafted ts draft k) s);
+        number-is = e ∙ sym (standing-number (R .terms) s);
+        later = λ j h. refl;
+      }
+
+  pub node-seen : (getD (p .numbers) k 0 ≡ 0 → ⊥) → NodePlanned ts count draft k p (getD (p .numbers) k 0 - 1) p
+  node-seen ne = seen-by (getD (p .numbers) k 0) (R .notes k hk) ne
+
+  -- a term of the table
+  in-known : (i : ℕ) → i < count → Standing (known ts count p) (messageAt ts i) i
+  in-known i h =
+      let size : length (take count ts) ≡ count = length-take-le count ts (omega (arith, R .table .size, R .table .room)) in
+      record {
+        below = omega (arith, size, length-append (take count ts) (take (p .count) (p .words)));
+        means =
+            sym
+            (messages-same (R .table .terms) (known ts count p)
+            (λ j lt. sym (List·getD-append (take count ts) (take (p .count) (p .words)) 0 j (omega (arith, size)) ∙ getD-take count ts j 0 lt)) i h);
+      }
+
+  pub node-stored : {i : ℕ} → layerOf (nodeAt draft k) ≡ layer.Stored i → NodePlanned ts count draft k p i p
+  node-stored {i} e =
+      let l : (i < count) × (drafted ts draft k ≡ messageAt ts i) = layered e in
+      let s : Standing (known ts count p) (drafted ts draft k) i = subst (λ (m : Message). Standing (known ts count p) m i) (sym (l .1)) (in-known i (l .0)) in
+      record { again = R; terms = sym (entered-present (R .terms) (drafted ts draft k) s); number-is = sym (standing-number (R .terms) s); later = λ j h. refl }
+
+  -- a term without operands
+  pub node-atom : {w : ℕ} → layerOf (nodeAt draft k) ≡ layer.Atom w → getD (p .numbers) k 0 ≡ 0 → {number : ℕ} {q : Plan}
+      → WordPlanned ts count p w number q → NodePlanned ts count draft k p number (withNote q k number)
+  node-atom {w} e unseen {number} {q} wp =
+      let m = drafted ts draft k in
+      let l : Atomic m w = layered e in
+      let terms : known ts count q ≡ entered (known ts count p) m = wp .terms ∙ sym (l .enters (known ts count p)) in
+      let E = entry (known ts count p) (R .terms) q (omega (arith, wp .most, R .room, R .size, noted-le (p .numbers))) terms in
+      noting p q number R unseen (λ j h. refl) (wp .numbers) (omega (arith, wp .most)) (subst (Longer (known ts count p)) (sym (wp .terms)) (longer-with (known ts count p) w))
+      (at-number E number (wp .number-is ∙ ap (place (known ts count q)) (sym (l .word (known ts count q))))) (E .extends .terms) terms
+
+-- ---- there is room for two words more, and numbers are small
+
+pub few : {ts : List ℕ} {count : ℕ} {draft : List Node} {p : Plan} → Ready ts count draft p → p .count ≤ 32
+few {p = p} R = omega (arith, R .room, R .size, noted-le (p .numbers))
+
+pub room-left : {ts : List ℕ} {count : ℕ} {draft : List Node} {p : Plan} → Ready ts count draft p → (k : ℕ) → k < 16 → getD (p .numbers) k 0 ≡ 0 → p .count ≤ 30
+room-left {p = p} R k hk e = omega (arith, R .room, R .size, noted-room (p .numbers) k (omega (arith, R .size)) e)
+
+place-le : (xs : List ℕ) (w : ℕ) (f : Found) → FoundIs xs (length xs) w f → placeBy f ≤ length xs
+place-le xs w (At i) h = omega (arith, h .0)
+place-le xs w Nothing h = omega arith
+
+pub number-small : {ts : List ℕ} {count : ℕ} {p : Plan} {w number : ℕ} {q : Plan} → WordPlanned ts count p w number q → count ≤ 512 → p .count ≤ 32 → number < 65535
+unfolding place
+number-small {ts} {count} {w = w} {q = q} wp h few =
+    let xs = known ts count q in
+    omega (arith, wp .number-is, wp .most, place-le xs w (findOf xs (length xs) w) (found-is xs (length xs) w), known-small ts count q)
+
+-- ---- a node with operands
+
+-- a node l before k was planned: its message stands in the terms that are known then
+module _ {ts : List ℕ} {count : ℕ} {draft : List Node} {p p₁ : Plan} {l i : ℕ} (R : Ready ts count draft p) (hl : l < 16)
+    (xs : List ℕ) (v : Terms (R .n) xs (length xs)) (e : known ts count p₁ ≡ entered xs (drafted ts draft l))
+    (R₁ : Ready ts count draft p₁) (at : i ≡ numberIn (known ts count p₁) (drafted ts draft l)) where
+  operand : EnteredIs (R .n) xs (known ts count p₁) (drafted ts draft l)
+  operand = entry R l hl xs v p₁ (omega (arith, few R₁)) e
+
+  operand-at : Standing (known ts count p₁) (drafted ts draft l) i
+  operand-at = at-number operand i at
+
+module _ {ts : List ℕ} {count : ℕ} {draft : List Node} {p : Plan} (R : Ready ts count draft p) (k : ℕ) (hk : k < 16)
+    (unseen : getD (p .numbers) k 0 ≡ 0) where
+  pub pair-below : {l r : ℕ} → layerOf (nodeAt draft k) ≡ layer.Pair l r → (l < k) × (r < k)
+  pair-below {l} {r} e =
+      let L : (l < k) × (r < k) × (drafted ts draft k ≡ pair (drafted ts draft l) (drafted ts draft r)) = layered R k hk e in
+      (L .0, L .1)
+
+  pub pair-room : {l r : ℕ} → layerOf (nodeAt draft k) ≡ layer.Pair l r
+      → {i : ℕ} {p₁ : Plan} → NodePlanned ts count draft l p i p₁ → {j : ℕ} {p₂ : Plan} → NodePlanned ts count draft r p₁ j p₂ → p₂ .count ≤ 30
+  pair-room e first second =
+      let h = pair-below e in
+      room-left (second .again) k hk (second .later k (h .1) ∙ first .later k (h .0) ∙ unseen)
+
+  pub body-below : {b w : ℕ} → layerOf (nodeAt draft k) ≡ layer.Encrypted b w → b < k
+  body-below {b} {w} e =
+      let L : (b < k) × ((x : Key) × (drafted ts draft k ≡ encrypted (drafted ts draft b) x) × (w ≡ keyWord x)) = layered R k hk e in
+      L .0
+
+  pub body-room : {b w : ℕ} → layerOf (nodeAt draft k) ≡ layer.Encrypted b w → {i : ℕ} {p₁ : Plan} → NodePlanned ts count draft b p i p₁ → p₁ .count ≤ 30
+  body-room e first = room-left (first .again) k hk (first .later k (body-below e) ∙ unseen)
+
+  pub node-pair : {l r : ℕ} → layerOf (nodeAt draft k) ≡ layer.Pair l r
+      → {i : ℕ} {p₁ : Plan} → NodePlanned ts count draft l p i p₁ → {j : ℕ} {p₂ : Plan} → NodePlanned ts count draft r p₁ j p₂
+      → {number : ℕ} {q : Plan} → WordPlanned ts count p₂ (wordOf (Pair i j)) number q → NodePlanned ts count draft k p number (withNote q k number)
+  unfolding entered
+  node-pair {l} {r} e {i} {p₁} first {j} {p₂} second {number} {q} wp =
+      let xs = known ts count p in
+      let ys = known ts count p₁ in
+      let zs = known ts count p₂ in
+      let all = known ts count q in
+      let a = drafted ts draft l in
+      let b = drafted ts draft r in
+      let L : (l < k) × (r < k) × (drafted ts draft k ≡ pair a b) = layered R k hk e in
+      let hl : l < 16 = omega (arith, L .0) in
+      let hr : r < 16 = omega (arith, L .1) in
+      let A = operand R hl xs (R .terms) (first .terms) (first .again) (first .number-is) in
+      let B = operand R hr ys (A .extends .terms) (second .terms) (second .again) (second .number-is) in
+      let sa : Standing zs a i =
+      standing-longer (A .extends .terms) (subst (Longer ys) (sym (second .terms)) (longer-entered ys b))
+      (operand-at R hl xs (R .terms) (first .terms) (first .again) (first .number-is)) in
+      let sb : Standing zs b j = operand-at R hr ys (A .extends .terms) (second .terms) (second .again) (second .number-is) in
+      let whole : zs ≡ entered (entered xs a) b = second .terms ∙ ap (λ (x : List ℕ). entered x b) (first .terms) in
+      let terms : all ≡ entered xs (drafted ts draft k) =
+      wp .terms ∙ ap (withWord zs) (sym (pair-word (B .extends .terms) sa sb)) ∙ ap (λ (x : List ℕ). withTerm x (pair a b)) whole
+      ∙ ap (entered xs) (sym (L .2)) in
+      let longer : Longer zs all = subst (Longer zs) (sym (wp .terms)) (longer-with zs (wordOf (Pair i j))) in
+      let E = entry R k hk xs (R .terms) q (omega (arith, wp .most, few (second .again))) terms in
+      let v = E .extends .terms in
+      noting R k hk p₂ q number (second .again) (second .later k (L .1) ∙ first .later k (L .0) ∙ unseen)
+      (λ x h. second .later x (omega (arith, L .1)) ∙ first .later x (omega (arith, L .0))) (wp .numbers) (omega (arith, wp .most)) longer
+      (at-number E number
+      (wp .number-is
+      ∙ ap (place all) (sym (pair-word v (standing-longer (B .extends .terms) longer sa) (standing-longer (B .extends .terms) longer sb)))
+      ∙ ap (numberIn all) (sym (L .2)))) v terms
+
+  pub node-encrypted : {b w : ℕ} → layerOf (nodeAt draft k) ≡ layer.Encrypted b w
+      → {i : ℕ} {p₁ : Plan} → NodePlanned ts count draft b p i p₁ → {j : ℕ} {p₂ : Plan} → WordPlanned ts count p₁ w j p₂
+      → {number : ℕ} {q : Plan} → WordPlanned ts count p₂ (wordOf (Encrypted i j)) number q → NodePlanned ts count draft k p number (withNote q k number)
+  unfolding entered wordIn
+  node-encrypted {b} {w} e {i} {p₁} first {j} {p₂} second {number} {q} wp =
+      let xs = known ts count p in
+      let ys = known ts count p₁ in
+      let zs = known ts count p₂ in
+      let all = known ts count q in
+      let m = drafted ts draft b in
+      let L : (b < k) × ((x : Key) × (drafted ts draft k ≡ encrypted m x) × (w ≡ keyWord x)) = layered R k hk e in
+      let x : Key = L .1 .0 in
+      let hb : b < 16 = omega (arith, L .0) in
+      let fits : KeyFits (R .n) x = subst (Writes (R .n)) (L .1 .1) (draft-writes (R .table) draft (R .fits) k hk) .1 in
+      let A = operand R hb xs (R .terms) (first .terms) (first .again) (first .number-is) in
+      let by-key : zs ≡ withTerm ys (key x) = second .terms ∙ ap (withWord ys) (L .1 .2) in
+      let B : EnteredIs (R .n) ys zs (key x) = subst (λ (l : List ℕ). EnteredIs (R .n) ys l (key x)) (sym by-key) (key-entered (R .small) ys (A .extends .terms) x fits) in
+      let near : Longer ys zs = subst (Longer ys) (sym (second .terms)) (longer-with ys w) in
+      let sm : Standing zs m i =
+      standing-longer (A .extends .terms) near (operand-at R hb xs (R .terms) (first .terms) (first .again) (first .number-is)) in
+      let sk : Standing zs (key x) j = at-number B j (second .number-is ∙ ap (place zs) (L .1 .2)) in
+      let whole : zs ≡ withTerm (entered xs m) (key x) = by-key ∙ ap (λ (l : List ℕ). withTerm l (key x)) (first .terms) in
+      let terms : all ≡ entered xs (drafted ts draft k) =
+      wp .terms ∙ ap (withWord zs) (sym (encrypted-word (B .extends .terms) sm sk)) ∙ ap (λ (l : List ℕ). withTerm l (encrypted m x)) whole
+      ∙ ap (entered xs) (sym (L .1 .1)) in
+      let far : Longer zs all = subst (Longer zs) (sym (wp .terms)) (longer-with zs (wordOf (Encrypted i j))) in
+      let E = entry R k hk xs (R .terms) q (omega (arith, wp .most, second .most, few (first .again))) terms in
+      let v = E .extends .terms in
+      noting R k hk p₁ q number (first .again) (first .later k (L .0) ∙ unseen) (λ x h. first .later x (omega (arith, L .0)))
+      (wp .numbers ∙ second .numbers) (omega (arith, wp .most, second .most)) (longer-trans near far)
+      (at-number E number
+      (wp .number-is
+      ∙ ap (place all) (sym (encrypted-word v (standing-longer (B .extends .terms) far sm) (standing-longer (B .extends .terms) far sk)))
+      ∙ ap (numberIn all) (sym (L .1 .1)))) v terms

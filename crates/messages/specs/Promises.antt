@@ -1,0 +1,101 @@
+-- What the crate promises beside the contracts of its functions: what holds of the table after a message was added. The
+-- contract of `add_message` gives the answer and every place of the table; these laws say what they mean.
+-- Assumes nothing.
+use mathlib.Core.Path.{_≡_, refl, sym, ap, _∙_, subst}
+use mathlib.Core.Bool.{Bool, true, false}
+use mathlib.Core.List.{List, _++_}
+use Prim.Native.Nat.{ℕ, _+_, _-_, _<_, _≤_}
+use native.Mathlib.Omega.{arith}
+use borrow.Author.Tests.{leb-true, ltb-true}
+use lib.Dec.{ltb, leb}
+use lib.ListN.{length, getD, drop, length-append, length-drop, List·getD-append}
+use lib.Seq.{drop-append-seam}
+use Rattle.messages.specs.declared.draft.Node.{Node}
+use Rattle.messages.specs.declared.lent.Stored.{Stored}
+use Rattle.messages.specs.declared.lent.Stored.the-variants.{At, Refused}
+use Rattle.terms.specs.Choice.{pick, both, both-true}
+use Rattle.terms.specs.Meaning.{messageAt, messages-same}
+use Rattle.terms.specs.Message.{Message}
+use Rattle.terms.specs.Number.{numberIn, termsOf, terms-length, terms-agree, terms-list}
+use Rattle.terms.specs.Rules.{Agree}
+use Rattle.terms.specs.Valid.{Terms, Valid, holds, holds-valid, terms-same}
+use Rattle.messages.specs.Draft.{draftMessage, draftFits}
+use Rattle.messages.specs.Entered.{entered}
+use Rattle.messages.specs.Lent.{over, addMessageOf, tableWith}
+use Rattle.messages.specs.Standing.{EnteredIs, Standing, entered-is, standing-number}
+use Rattle.messages.specs.Writes.{draft-writes}
+
+-- a message m was added to a table ts of `count` terms; its number is i, and ts′ has `count′` terms
+pub record MessageAdded (n : ℕ) (ts : List ℕ) (count : ℕ) (m : Message) (i count′ : ℕ) (ts′ : List ℕ) : Type 0 where
+  -- the table keeps the rules
+  pub valid : Valid n ts′ count′
+  -- the message has the number
+  pub below : i < count′
+  pub means : messageAt ts′ i ≡ m
+  -- older terms keep their numbers and their meaning
+  pub more : count ≤ count′
+  pub older : Agree ts ts′ count
+  pub meaning : (j : ℕ) → j < count → messageAt ts j ≡ messageAt ts′ j
+  -- the terms added are those that entering the message adds
+  pub added : count′ ≡ length (entered (termsOf ts count) m)
+  -- places past the terms keep their values
+  pub past : drop count′ ts′ ≡ drop count′ ts
+
+-- ---- what an accepted answer says
+
+record Accepted (a b c : Bool) (x y i m : ℕ) : Type 0 where
+  first : a ≡ true
+  second : b ≡ true
+  third : c ≡ true
+  number : i ≡ x
+  count : m ≡ y
+
+accepted : (a b c : Bool) (x y i m : ℕ) → pick a (pick b (pick c (At x y) (Refused 20)) (Refused 6)) (Refused 10) ≡ At i m → Accepted a b c x y i m
+accepted true true true x y i m e = record { first = refl; second = refl; third = refl; number = (cc); count = (cc) }
+accepted true true false x y i m e = let z : _≡_ {A = ℕ} 0 1 = cc in absurd (omega arith)
+accepted true false c x y i m e = let z : _≡_ {A = ℕ} 0 1 = cc in absurd (omega arith)
+accepted false b c x y i m e = let z : _≡_ {A = ℕ} 0 1 = cc in absurd (omega arith)
+
+-- ---- the terms laid over the table
+
+module _ {n : ℕ} (ts : List ℕ) {xs : List ℕ} (v : Terms n xs (length xs)) (size : length ts ≡ 512) (room : length xs ≤ 512) where
+  over-agree : Agree xs (over xs ts) (length xs)
+  over-agree k h = sym (List·getD-append xs (drop (length xs) ts) 0 k h)
+
+  over-valid : Valid n (over xs ts) (length xs)
+  over-valid =
+      record {
+        size = length-append xs (drop (length xs) ts) ∙ omega (arith, length-drop (length xs) ts);
+        room = room;
+        terms = terms-same v (over xs ts) over-agree;
+      }
+
+-- ---- the theorem
+
+pub message-added : (n : ℕ) → n ≤ 65536 → (ts : List ℕ) (count : ℕ) (draft : List Node) (root : ℕ) {i m : ℕ} → addMessageOf n ts count draft root ≡ At i m
+    → MessageAdded n ts count (draftMessage (messageAt ts) draft root) i m (tableWith ts count draft root (At i m))
+unfolding addMessageOf
+message-added n small ts count draft root {i} {m} e =
+    let message = draftMessage (messageAt ts) draft root in
+    let old = termsOf ts count in
+    let xs = entered old message in
+    let a = accepted (holds n ts count) (both (ltb root 16) (draftFits n count draft)) (leb (length xs) 512) (numberIn xs message) (length xs) i m e in
+    let v = holds-valid n ts count (a .first) in
+    let b = both-true (ltb root 16) (draftFits n count draft) (a .second) in
+    let room : length xs ≤ 512 = leb-true (length xs) 512 (a .third) in
+    let E = entered-is small message (draft-writes v draft (b .1) root (ltb-true root 16 (b .0))) old (terms-list v) (omega arith) in
+    let here : numberIn xs message ≡ E .number = standing-number (E .extends .terms) (E .stands) in
+    let at : i ≡ E .number = a .number ∙ here in
+    let agree = over-agree ts (E .extends .terms) (v .size) room in
+    let same : Agree ts (over xs ts) count = λ k h.
+    terms-agree v k h ∙ E .extends .agree k (omega (arith, terms-length v)) ∙ agree k (omega (arith, terms-length v, E .extends .more)) in
+    record {
+      valid = rw (a .count) (over-valid ts (E .extends .terms) (v .size) room);
+      below = omega (arith, at, a .count, E .stands .below);
+      means = rw at (sym (messages-same (E .extends .terms) (over xs ts) agree (E .number) (E .stands .below)) ∙ E .stands .means);
+      more = omega (arith, a .count, E .extends .more, terms-length v);
+      older = same;
+      meaning = messages-same (v .terms) (over xs ts) same;
+      added = a .count;
+      past = rw (a .count) (drop-append-seam xs (drop (length xs) ts));
+    }

@@ -1,0 +1,80 @@
+-- Every message of a table that keeps the rules, and every message of a draft that fits, has its fields in range.
+-- Assumes nothing.
+use mathlib.Core.Path.{_≡_, sym, subst}
+use mathlib.Core.Bool.{true}
+use mathlib.Core.List.{List}
+use Prim.Native.Nat.{ℕ, zero, suc, _<_, _≤_}
+use native.Mathlib.Omega.{arith}
+use borrow.Author.Tests.{ltb-true, leb-true}
+use lib.Dec.{ltb}
+use lib.ListN.{getD}
+use Rattle.messages.specs.declared.draft.DraftKey.{DraftKey}
+use Rattle.messages.specs.declared.draft.DraftKey.the-variants.{LongTerm, Session}
+use Rattle.messages.specs.declared.draft.Node.{Node}
+use Rattle.messages.specs.declared.draft.Node.the-variants as node
+use Rattle.terms.specs.declared.word.Term.{Term}
+use Rattle.terms.specs.declared.word.Term.the-variants.{Principal, Time, Nonce, LongTermKey, SessionKey, Pair, Encrypted, Unknown}
+use Rattle.terms.specs.Choice.{both-true}
+use Rattle.terms.specs.Meaning.{keyOf, messageOf, messageAt, message-at, key-at}
+use Rattle.terms.specs.Message.{Message}
+use Rattle.terms.specs.Rules.{termAt, isKey, Fields}
+use Rattle.terms.specs.Valid.{Terms, Valid, fields-at}
+use Rattle.terms.specs.Word.{TimeFits, time-fits}
+use Rattle.messages.specs.Draft.{keyName, keyFits, nodeMessage, nodeAt, nodeFits, draftMessage, draftFits, fits-at, draft-at}
+use Rattle.messages.specs.Standing.{KeyFits, Writes}
+
+-- ---- of a table
+
+term-writes : (n : ℕ) (ts : List ℕ) (at : ℕ) (sub : ℕ → Message) → ((k : ℕ) → k < at → Writes n (sub k))
+    → ((k : ℕ) → k < at → isKey (termAt ts k) ≡ true → KeyFits n (keyOf (sub k))) → (t : Term) → Fields n ts at t → TimeFits t → Writes n (messageOf sub t)
+term-writes n ts at sub w kf (Principal p) f t = f
+term-writes n ts at sub w kf (Time x) f t = t
+term-writes n ts at sub w kf (Nonce i) f t = f
+term-writes n ts at sub w kf (LongTermKey p) f t = f
+term-writes n ts at sub w kf (SessionKey i) f t = f
+term-writes n ts at sub w kf (Pair l r) f t = (w l (f .0), w r (f .1))
+term-writes n ts at sub w kf (Encrypted b k) f t = (w b (f .0), kf k (f .1) (f .2))
+term-writes n ts at sub w kf Unknown f t = absurd f
+
+module _ {n : ℕ} {ts : List ℕ} {count : ℕ} (v : Terms n ts count) where
+  table-below : (m i : ℕ) → i < m → i < count → Writes n (messageAt ts i)
+  table-below zero i h hi = absurd (omega arith)
+  table-below (suc m) i h hi =
+      subst (Writes n) (sym (message-at v i hi))
+      (term-writes n ts i (messageAt ts) (λ k lt. table-below m k (omega arith) (omega arith))
+      (λ k lt e. subst (Writes n) (key-at v k (omega arith) e) (table-below m k (omega arith) (omega arith))) (termAt ts i) (fields-at v i hi)
+      (time-fits (getD ts i 0)))
+
+  pub table-writes : (i : ℕ) → i < count → Writes n (messageAt ts i)
+  table-writes i h = table-below (suc i) i (omega arith) h
+
+-- ---- of a draft
+
+key-writes : (n : ℕ) (k : DraftKey) → keyFits n k ≡ true → KeyFits n (keyName k)
+key-writes n (LongTerm p) e = ltb-true p n e
+key-writes n (Session i) e = leb-true i 95 e
+
+node-writes : (n count k : ℕ) (stored sub : ℕ → Message) → ((i : ℕ) → i < count → Writes n (stored i)) → ((j : ℕ) → j < k → Writes n (sub j))
+    → (x : Node) → nodeFits n count k x ≡ true → Writes n (nodeMessage stored sub x)
+node-writes n count k stored sub ws w (node.Principal p) e = ltb-true p n e
+node-writes n count k stored sub ws w (node.Time t) e = let h : t ≤ 4294967295 = leb-true t 4294967295 e in omega arith
+node-writes n count k stored sub ws w (node.Nonce i) e = leb-true i 95 e
+node-writes n count k stored sub ws w (node.Key x) e = key-writes n x e
+node-writes n count k stored sub ws w (node.Pair l r) e =
+    let b = both-true (ltb l k) (ltb r k) e in
+    (w l (ltb-true l k (b .0)), w r (ltb-true r k (b .1)))
+node-writes n count k stored sub ws w (node.Encrypted b x) e =
+    let c = both-true (ltb b k) (keyFits n x) e in
+    (w b (ltb-true b k (c .0)), key-writes n x (c .1))
+node-writes n count k stored sub ws w (node.Stored i) e = ws i (ltb-true i count e)
+
+module _ {n : ℕ} {ts : List ℕ} {count : ℕ} (v : Valid n ts count) (draft : List Node) (fits : draftFits n count draft ≡ true) where
+  draft-below : (m k : ℕ) → k < m → k < 16 → Writes n (draftMessage (messageAt ts) draft k)
+  draft-below zero k h hk = absurd (omega arith)
+  draft-below (suc m) k h hk =
+      subst (Writes n) (sym (draft-at (messageAt ts) n count draft fits k hk))
+      (node-writes n count k (messageAt ts) (draftMessage (messageAt ts) draft) (table-writes (v .terms))
+      (λ j lt. draft-below m j (omega arith) (omega arith)) (nodeAt draft k) (fits-at n count draft fits k hk))
+
+  pub draft-writes : (k : ℕ) → k < 16 → Writes n (draftMessage (messageAt ts) draft k)
+  draft-writes k h = draft-below (suc k) k (omega arith) h

@@ -1,0 +1,51 @@
+// The public call on a lent term table: any slice, any numbers, any draft, nothing required. A refused call leaves every
+// place as it was.
+use super::draft::NODES;
+use super::draft::Node;
+use super::draft::draft_fits;
+use super::plan::fresh;
+use super::plan::plan_node;
+use super::plan::write_plan;
+use terms::lent::holds_together;
+use terms::rules::REFUSE_FULL;
+use terms::rules::REFUSE_RANGE;
+use terms::rules::REFUSE_TABLES;
+use terms::table::MAX_TERMS;
+ghost use mathlib.Core.Path.{_≡_};
+ghost use Rattle.messages.specs.Lent.{addMessageOf, tableWith};
+
+pub enum Stored {
+    // The message's number, and how many terms the table now has.
+    At(u16, usize),
+    Refused(u8),
+}
+
+// Adds the message of a draft's node: all its terms, or none.
+pub fn add_message(
+    terms: &mut [u64],
+    count: usize,
+    n: u16,
+    draft: [Node; 16],
+    root: usize,
+) -> Stored
+    ensures { λ r. ⌜ (r ≡ addMessageOf n (now (terms .entry)) count draft root) × (now (terms .exit) ≡ tableWith (now (terms .entry)) count draft root r) ⌝ }
+{
+    if !holds_together(terms, count, n) {
+        return Stored::Refused(REFUSE_TABLES);
+    }
+    if NODES <= root {
+        return Stored::Refused(REFUSE_RANGE);
+    }
+    if !draft_fits(draft, n, count) {
+        return Stored::Refused(REFUSE_RANGE);
+    }
+    let planned = plan_node(terms, count, draft, root, fresh());
+    let number = planned.number;
+    let plan = planned.plan;
+    let all = count + plan.count;
+    if MAX_TERMS < all {
+        return Stored::Refused(REFUSE_FULL);
+    }
+    write_plan(terms, count, plan);
+    Stored::At(number, all)
+}

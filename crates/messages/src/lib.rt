@@ -1,0 +1,4 @@
+// Whole messages, added to the term table all or nothing.
+pub mod draft;
+pub mod lent;
+pub mod plan;
