@@ -1,0 +1,10 @@
+pub mod Derives
+pub mod Public
+pub mod Synth
+pub mod Known
+pub mod Sweep
+pub mod Saturate
+pub mod Compose
+pub mod Derivable
+pub mod Lent
+pub mod Cases
