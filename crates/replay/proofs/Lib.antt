@@ -1,0 +1,7 @@
+pub mod Change
+pub mod Copying
+pub mod Loading
+pub mod Returned
+pub mod Rows
+pub mod Sweep
+pub mod Tests

@@ -1,0 +1,96 @@
+-- The replay cache of document 01 ("Steps"): "the caller's own list of 16 entries with a count, shared by all parties".
+-- A list of places and a count stand for the entries in the first `count` places. What a call does is said of that list of
+-- entries (one is appended, or the list is filtered), and `written` says what becomes of the places. The same definitions
+-- serve sixteen places by value and a lent list: both are a list of entries here.
+pub mod Calls
+pub mod Entries
+pub mod Places
+use Prim.Native.Nat.{ℕ, _+_, _-_}
+use mathlib.Core.Bool.{Bool, true, false, not, _&&_, _||_}
+use mathlib.Core.List.{List, [], _∷_, _++_}
+use lib.Dec.{eqb, leb}
+use lib.ListN.{length, take, drop, replicate}
+use Rattle.replay.specs.declared.entry.Entry.{Entry}
+use Rattle.replay.specs.declared.entry.Purge.{Purge}
+use Rattle.replay.specs.declared.entry.Answer.{Answer}
+use Rattle.replay.specs.declared.entry.Answer.the-variants.{Count, Refused}
+
+abbrev pub choose : {X : Type 0} → Bool → X → X → X
+choose true x y = x
+choose false x y = y
+
+-- ---- entries
+
+-- "freed places become 0"
+abbrev pub empty : Entry
+empty = record { b = 0; k = 0; ta = 0 }
+
+-- "entries hold b, K and Ta"
+abbrev pub same : Entry → Entry → Bool
+same x y = eqb (x .b) (y .b) && (eqb (x .k) (y .k) && eqb (x .ta) (y .ta))
+
+-- "b, K, Ta is in the cache"
+unfoldable pub present : List Entry → Entry → Bool
+present [] e = false
+present (x ∷ xs) e = same x e || present xs e
+
+-- "forgets b's entries whose Ta + La is at or below the clock"; all others stay
+unfoldable pub stays : Purge → Entry → Bool
+stays p x = not (eqb (x .b) (p .b) && leb (x .ta + p .la) (p .clock))
+
+-- the entries that pass a test: "the rest keep their order"
+abbrev pub filter : (Entry → Bool) → List Entry → List Entry
+filter q [] = []
+filter q (x ∷ xs) = choose (q x) (x ∷ filter q xs) (filter q xs)
+
+unfoldable pub kept : Purge → List Entry → List Entry
+kept p xs = filter (stays p) xs
+
+-- ---- places
+
+-- the entries that a list of places and a count stand for: "places at or past a table's count are never read"
+abbrev pub entries : List Entry → ℕ → List Entry
+entries list count = take count list
+
+-- `xs`, and 0 in what is left of `count` places: "the kept ones move to the front and the freed places become 0"
+abbrev pub padded : ℕ → List Entry → List Entry
+padded count xs = xs ++ replicate (count - length xs) empty
+
+-- The list when its entries, `count` before, become `xs`: "places at or past a table's count .. keep their values until they
+-- are filled".
+unfoldable pub written : List Entry → ℕ → List Entry → List Entry
+written list count xs = padded count xs ++ drop (length (padded count xs)) list
+
+-- ---- the two calls
+
+-- What a call comes to: "a refusal is its number alone"; an accepted call has the count of entries after it. Either has the list after it.
+pub data Outcome : Type 0 where
+  refused : (number : ℕ) (list : List Entry) → Outcome
+  accepted : (count : ℕ) (list : List Entry) → Outcome
+
+-- the paper's number or value for each case of an answer, beside the list that the call leaves
+abbrev pub outcome : Answer → List Entry → Outcome
+outcome (Count count) list = accepted count list
+outcome (Refused number) list = refused number list
+
+-- "10 for a list or count that does not fit": other than sixteen places, or a count above sixteen
+unfoldable pub fits : List Entry → ℕ → Bool
+fits list count = eqb (length list) 16 && leb count 16
+
+-- the entries become `xs`
+abbrev pub holding : List Entry → ℕ → List Entry → Outcome
+holding list count xs = accepted (length xs) (written list count xs)
+
+-- "remember then 18 or 19 as in step 5", which "remembers b, K, Ta"
+unfoldable pub remembered : List Entry → ℕ → Entry → Outcome
+remembered list count e =
+    choose (not (fits list count)) (refused 10 list)
+    (choose (present (entries list count) e) (refused 18 list)
+    (choose (eqb count 16) (refused 19 list)
+    (holding list count (entries list count ++ (e ∷ [])))))
+
+-- step 8
+unfoldable pub forgotten : List Entry → ℕ → Purge → Outcome
+forgotten list count p =
+    choose (not (fits list count)) (refused 10 list)
+    (holding list count (kept p (entries list count)))

@@ -1,0 +1,128 @@
+// The replay cache by value: its sixteen places and the count, side by side. `remember` and `forget` are the whole calls;
+// `find` and `sweep` are their parts, for a caller that has looked at the refusals itself.
+ghost use mathlib.Core.Path.{_≡_};
+ghost use Prim.Native.Nat.{_≤_};
+ghost use Rattle.replay.specs.Cache.{same, present, stays, kept, entries, holding, refused, accepted, outcome, remembered, forgotten};
+use crate::entry::Answer;
+use crate::entry::EMPTY;
+use crate::entry::Entry;
+use crate::entry::PLACES;
+use crate::entry::Purge;
+use crate::entry::REFUSE_CACHE_FULL;
+use crate::entry::REFUSE_REPLAY;
+use crate::entry::REFUSE_TABLES;
+
+// The places after a call, and its answer.
+pub struct After {
+    pub places: [Entry; PLACES],
+    pub answer: Answer,
+}
+
+// The places once a principal's dead entries are forgotten, and how many entries are left.
+pub struct Swept {
+    pub places: [Entry; PLACES],
+    pub count: usize,
+}
+
+fn equal(x: Entry, y: Entry) -> bool
+    ensures { λ r. ⌜ r ≡ same x y ⌝ }
+{
+    if x.b != y.b {
+        return false;
+    }
+    if x.k != y.k {
+        return false;
+    }
+    x.ta == y.ta
+}
+
+// Whether an entry of the cache is `e`.
+pub fn find(places: [Entry; PLACES], count: usize, e: Entry) -> bool
+    requires { ⌜ count ≤ 16 ⌝ }
+    ensures { λ r. ⌜ r ≡ present (entries places count) e ⌝ }
+{
+    let mut i = 0;
+    while i < count {
+        let x = places[i];
+        if equal(x, e) {
+            return true;
+        }
+        i += 1;
+    }
+    false
+}
+
+// Whether `x` is left when `p` is done: it is another principal's, or its life is not over.
+fn survives(x: Entry, p: Purge) -> bool
+    ensures { λ r. ⌜ r ≡ stays p x ⌝ }
+{
+    x.b != p.b || (p.clock as u64) < (x.ta as u64) + (p.la as u64)
+}
+
+// One pass: a place that is read becomes empty, and an entry that survives moves to the front.
+pub fn sweep(places: [Entry; PLACES], count: usize, p: Purge) -> Swept
+    requires { ⌜ count ≤ 16 ⌝ }
+    ensures { λ r. ⌜ accepted (r .count) (r .places) ≡ holding places count (kept p (entries places count)) ⌝ }
+{
+    let mut next = places;
+    let mut left = 0;
+    let mut i = 0;
+    while i < count {
+        let x = next[i];
+        next[i] = EMPTY;
+        if survives(x, p) {
+            next[left] = x;
+            left += 1;
+        }
+        i += 1;
+    }
+    Swept {
+        places: next,
+        count: left,
+    }
+}
+
+fn refuse(places: [Entry; PLACES], number: u8) -> After
+    ensures { λ r. ⌜ outcome (r .answer) (r .places) ≡ refused number places ⌝ }
+{
+    After {
+        places: places,
+        answer: Answer::Refused(number),
+    }
+}
+
+// Puts `e` behind the entries. Refused: 10, 18 and 19.
+pub fn remember(places: [Entry; PLACES], count: usize, e: Entry) -> After
+    ensures { λ r. ⌜ outcome (r .answer) (r .places) ≡ remembered places count e ⌝ }
+{
+    if PLACES < count {
+        return refuse(places, REFUSE_TABLES);
+    }
+    if find(places, count, e) {
+        return refuse(places, REFUSE_REPLAY);
+    }
+    if count == PLACES {
+        return refuse(places, REFUSE_CACHE_FULL);
+    }
+    let mut next = places;
+    next[count] = e;
+    After {
+        places: next,
+        answer: Answer::Count(count + 1),
+    }
+}
+
+// Forgets the entries of a principal whose life is over. Refused: 10.
+pub fn forget(places: [Entry; PLACES], count: usize, p: Purge) -> After
+    ensures { λ r. ⌜ outcome (r .answer) (r .places) ≡ forgotten places count p ⌝ }
+{
+    if PLACES < count {
+        return refuse(places, REFUSE_TABLES);
+    }
+    let swept = sweep(places, count, p);
+    let next = swept.places;
+    After {
+        places: next,
+        answer: Answer::Count(swept.count),
+    }
+}
