@@ -1,0 +1,98 @@
+//! The comparison itself: it finds nothing where nothing is, and what is there.
+
+use std::path::PathBuf;
+use std::process::Command;
+
+use compare::{first_difference, Difference, Engine, Outcome};
+
+fn same(file: &[u8]) -> Vec<u8> {
+    reference::listing(file).into_bytes()
+}
+
+/// Says that a replay is fine.
+fn forgetful(file: &[u8]) -> Vec<u8> {
+    reference::listing(file).replace("refused 18", "ok 0").into_bytes()
+}
+
+fn over(engine: Engine, files: u64) -> Outcome {
+    let mut outcome = Outcome::default();
+    for number in 0..files {
+        outcome.compare(&engine, &number.to_string(), &generator::walk_file(7, number));
+    }
+    outcome
+}
+
+#[test]
+fn equal_engines_do_not_differ() {
+    let outcome = over(Engine::Function(same), 300);
+    assert_eq!((outcome.files, outcome.different, outcome.first), (300, 0, None));
+}
+
+#[test]
+fn a_wrong_engine_is_found() {
+    let outcome = over(Engine::Function(forgetful), 300);
+    assert!(outcome.different > 10);
+    let (_, difference) = outcome.first.unwrap();
+    assert!(difference.contains("refused 18"), "{difference}");
+}
+
+#[test]
+fn first_differences() {
+    let cases = [
+        ("", "", None),
+        ("a\n", "a\n", None),
+        ("a\nb\n", "a\nc\n", Some((2, "b\\n", "c\\n"))),
+        ("a\nb\n", "a\n", Some((2, "b\\n", "(nothing)"))),
+        ("a\n", "a\nb\n", Some((2, "(nothing)", "b\\n"))),
+        ("a\n", "a", Some((1, "a\\n", "a"))),
+        ("a\n", "a\r\n", Some((1, "a\\n", "a\\r\\n"))),
+    ];
+    for (reference, engine, expected) in cases {
+        let expected = expected.map(|(line, reference, engine): (usize, &str, &str)| Difference {
+            line,
+            reference: reference.into(),
+            engine: engine.into(),
+        });
+        assert_eq!(first_difference(reference.as_bytes(), engine.as_bytes()), expected);
+    }
+}
+
+#[test]
+fn a_program_is_fed_and_read() {
+    // A program that echoes its input gives no listing.
+    let engine = Engine::Program(PathBuf::from("cat"));
+    assert_eq!(engine.listing(&[7; 200_000]).unwrap(), vec![7; 200_000]);
+    let outcome = over(engine, 3);
+    assert_eq!((outcome.files, outcome.different), (3, 3));
+}
+
+#[test]
+fn programs_that_fail_or_do_not_start_differ() {
+    for program in ["false", "./no-such-program"] {
+        assert!(Engine::Program(PathBuf::from(program)).listing(b"").is_err());
+    }
+}
+
+#[test]
+fn a_program_that_does_not_read_is_judged_by_its_listing() {
+    let engine = Engine::Program(PathBuf::from("true"));
+    assert_eq!(engine.listing(&[7; 200_000]).unwrap(), b"");
+}
+
+#[test]
+fn the_command_reports_by_its_status() {
+    let run = |arguments: &[&str]| {
+        let output = Command::new(env!("CARGO_BIN_EXE_compare")).args(arguments).output().unwrap();
+        (output.status.code(), String::from_utf8(output.stdout).unwrap())
+    };
+    let (status, output) =
+        run(&["--program", "cat", "--seed", "1", "--count", "5", "--from", "10"]);
+    assert_eq!(status, Some(1));
+    assert!(output.starts_with(
+        "5 files compared, 5 differ\nfirst: generated file: --seed 1 --file 10\nline 1\n"
+    ));
+    assert_eq!(run(&["--program", "cat"]).0, Some(2));
+    assert_eq!(run(&["--seed", "1", "--count", "5"]).0, Some(2));
+    assert_eq!(run(&["--program"]).0, Some(2));
+    assert_eq!(run(&["--program", "cat", "--files", "no-such-directory"]).0, Some(2));
+}

@@ -1,0 +1,106 @@
+//! Bytes that are no good walk: damaged files, bad headers, random records and
+//! random bytes.
+
+use reference::file::{Header, Record, StepRecord, TermRecord, HEADER_BYTES, MAX_FILE_BYTES};
+
+use crate::random::Random;
+use crate::scenes::any_header;
+use crate::walk::{header_bytes, record_bytes};
+
+/// Up to four damages: a byte changed, taken out or put in, the end cut off, a
+/// stretch doubled, a mark put in the middle.
+pub fn damage(random: &mut Random, mut bytes: Vec<u8>) -> Vec<u8> {
+    for _ in 0..random.between(1, 4) {
+        let at = random.below(bytes.len().max(1)).min(bytes.len());
+        if bytes.is_empty() {
+            break;
+        }
+        match random.below(8) {
+            0 | 1 => bytes[at] = random.byte(),
+            2 => bytes[at] ^= 1 << random.below(8),
+            3 => drop(bytes.remove(at)),
+            4 => bytes.insert(at, random.byte()),
+            5 => bytes.truncate(bytes.len() - random.below(bytes.len().min(14))),
+            6 => {
+                let end = (at + random.below(40)).min(bytes.len());
+                let stretch = bytes[at..end].to_vec();
+                bytes.splice(at..at, stretch);
+            }
+            _ => {
+                let mark = random.pick(&[*b"HD", *b"TM", *b"ST", *b"XX"]);
+                bytes.splice(at..(at + 2).min(bytes.len()), mark);
+            }
+        }
+    }
+    bytes
+}
+
+/// A good header, then records whose fields are small or of any value, and at
+/// times a broken end.
+pub fn random_records(random: &mut Random) -> Vec<u8> {
+    let mut bytes = header_bytes(&any_header(random));
+    for _ in 0..random.between(0, 30) {
+        let any = random.one_in(6);
+        let mut field = |limit: u64| if any { random.number() } else { random.number() % limit };
+        let term =
+            TermRecord { kind: field(8) as u8, left: field(12) as u16, right: field(3) as u16 };
+        let step = StepRecord {
+            step: field(12) as u8,
+            run: field(3) as u8,
+            a: field(4) as u8,
+            b: field(4) as u8,
+            message: field(14) as u16,
+            time: field(2) as u32,
+        };
+        let record = if random.one_in(2) { Record::Term(term) } else { Record::Step(step) };
+        bytes.extend(record_bytes(&record));
+    }
+    match random.below(6) {
+        0 => bytes.extend(header_bytes(&any_header(random))),
+        1 => bytes.push(random.pick(b"TSHX")),
+        2 => bytes.extend(random.pick(&[
+            b"TM\x05\0\0\0".as_slice(),
+            b"TM",
+            b"ST",
+            b"ST\x01\0\x01\x02\0\0\0\0\0",
+        ])),
+        _ => {}
+    }
+    bytes
+}
+
+/// A header with one value or two at or past the ends of its range, or not whole.
+pub fn bad_header(random: &mut Random) -> Vec<u8> {
+    let mut header: Header = any_header(random);
+    for _ in 0..random.pick(&[1, 1, 1, 2]) {
+        let at_n = 1u32.checked_shl(header.principals.into()).unwrap_or(0);
+        match random.below(6) {
+            0 => header.principals = random.pick(&[0, 1, 2, 2, 17, 17, 18, 32, 255]),
+            1 => header.flags |= 1,
+            2 => header.flags |= at_n as u16,
+            3 => header.flags |= (at_n << 1) as u16,
+            4 => header.ticket_life = 0,
+            _ => header.authenticator_life = 0,
+        }
+    }
+    let mut bytes = header_bytes(&header);
+    match random.below(6) {
+        0 => bytes.truncate(random.below(HEADER_BYTES)),
+        1 => bytes[..2].copy_from_slice(&random.pick(&[*b"HW", *b"hd", *b"DH", *b"ST", *b"TM"])),
+        2 => bytes.resize(random.pick(&[MAX_FILE_BYTES, MAX_FILE_BYTES + 1]), 0),
+        _ => bytes
+            .extend(record_bytes(&Record::Step(StepRecord { step: 7, ..StepRecord::default() }))),
+    }
+    bytes
+}
+
+pub fn random_bytes(random: &mut Random) -> Vec<u8> {
+    if random.one_in(6) {
+        return Vec::new();
+    }
+    let mut bytes = if random.one_in(2) { header_bytes(&any_header(random)) } else { Vec::new() };
+    for _ in 0..random.below(60) {
+        bytes.push(random.byte());
+    }
+    bytes
+}

@@ -1,0 +1,202 @@
+//! The forms of the messages that steps 3 to 6 take, as patterns.
+//!
+//! The reference reads a message with nested code; here the same forms are
+//! written as data. So they can be filled in, filled in with one part wrong, and
+//! asked which parts of a message do not fit.
+
+use reference::realm::{Realm, Run};
+use reference::terms::{Message, Shape};
+
+#[derive(Clone, Copy, Debug, PartialEq, Eq)]
+pub enum Kind {
+    Principal,
+    Time,
+    Nonce,
+    LongTermKey,
+    SessionKey,
+}
+
+/// An atom has a kind and, if the step fixes it, a value.
+#[derive(Clone, Debug)]
+pub enum Pattern {
+    Atom(Kind, Option<u32>),
+    Pair(Box<Pattern>, Box<Pattern>),
+    Lock(Box<Pattern>, Box<Pattern>),
+}
+
+use Kind::*;
+use Pattern::Atom;
+
+fn list(parts: &[Pattern]) -> Pattern {
+    let (first, rest) = parts.split_first().expect("a list is not empty");
+    if rest.is_empty() {
+        return first.clone();
+    }
+    Pattern::Pair(Box::new(first.clone()), Box::new(list(rest)))
+}
+
+fn lock(body: Pattern, key: Pattern) -> Pattern {
+    Pattern::Lock(Box::new(body), Box::new(key))
+}
+
+fn fixed(kind: Kind, value: u8) -> Pattern {
+    Atom(kind, Some(u32::from(value)))
+}
+
+/// Step 3; that a and b are unequal and not 0 is asked apart.
+pub fn request() -> Pattern {
+    list(&[Atom(Principal, None), Atom(Principal, None), Atom(Nonce, None)])
+}
+
+pub fn initiator_part(a: u8, b: u8, own_nonce: u8) -> Pattern {
+    let body =
+        [Atom(SessionKey, None), fixed(Principal, b), Atom(Time, None), fixed(Nonce, own_nonce)];
+    lock(list(&body), fixed(LongTermKey, a))
+}
+
+/// Step 5, with the K that the ticket holds if it is known.
+pub fn delivery(a: u8, b: u8, key: Option<u32>) -> Pattern {
+    let ticket = [Atom(SessionKey, key), fixed(Principal, a), Atom(Time, None)];
+    let ticket = lock(list(&ticket), fixed(LongTermKey, b));
+    let authenticator = list(&[fixed(Principal, a), Atom(Time, None)]);
+    list(&[ticket, lock(authenticator, Atom(SessionKey, key))])
+}
+
+pub fn answer(key: u8, ta: u32) -> Pattern {
+    lock(Atom(Time, Some(ta)), fixed(SessionKey, key))
+}
+
+/// The form of m at steps 3 to 6 in this run; step 6 has none in a run that
+/// holds no K and Ta. Only the key of step 5 depends on m itself.
+pub fn form(step: u8, number: usize, run: Option<&Run>, key: Option<u32>) -> Option<Pattern> {
+    if step == 3 {
+        return Some(request());
+    }
+    let run = run?;
+    match step {
+        4 => Some(initiator_part(run.a, run.b, number as u8)),
+        5 => Some(delivery(run.a, run.b, key)),
+        6 => run.held.and_then(|h| Some(answer(h.session_key, h.authenticator_time?))),
+        _ => None,
+    }
+}
+
+pub fn atom(message: &Message) -> Option<(Kind, u32)> {
+    Some(match *message.shape() {
+        Shape::Principal(p) => (Principal, u32::from(p)),
+        Shape::Time(t) => (Time, t),
+        Shape::Nonce(i) => (Nonce, u32::from(i)),
+        Shape::LongTermKey(p) => (LongTermKey, u32::from(p)),
+        Shape::SessionKey(i) => (SessionKey, u32::from(i)),
+        _ => return None,
+    })
+}
+
+pub fn shape(kind: Kind, value: u32) -> Shape {
+    match kind {
+        Principal => Shape::Principal(value as u8),
+        Time => Shape::Time(value),
+        Nonce => Shape::Nonce(value as u8),
+        LongTermKey => Shape::LongTermKey(value as u8),
+        SessionKey => Shape::SessionKey(value as u8),
+    }
+}
+
+/// The part at a place: L and R are the halves of a pair, B and K the body and
+/// the key of a lock.
+pub fn part<'a>(message: &'a Message, place: &str) -> Option<&'a Message> {
+    place.chars().try_fold(message, |message, turn| match turn {
+        'L' => message.pair().map(|p| p.0),
+        'R' => message.pair().map(|p| p.1),
+        'B' => message.encrypted().map(|p| p.0),
+        _ => message.encrypted().map(|p| p.1),
+    })
+}
+
+/// The value of an atom of this kind at a place.
+pub fn value(message: &Message, place: &str, kind: Kind) -> Option<u32> {
+    let (found, value) = atom(part(message, place)?)?;
+    (found == kind).then_some(value)
+}
+
+/// The parts that do not fit, from the outside in: their places and how. Below
+/// a part that is no pair or no lock nothing is looked at.
+pub fn misfits(pattern: &Pattern, message: &Message, place: &str) -> Vec<String> {
+    let both = |parts: Option<(&Message, &Message)>,
+                first: (&Pattern, char),
+                second: (&Pattern, char),
+                lacking: &str| {
+        let Some((one, other)) = parts else { return vec![format!("m{place} {lacking}")] };
+        let mut found = misfits(first.0, one, &format!("{place}{}", first.1));
+        found.extend(misfits(second.0, other, &format!("{place}{}", second.1)));
+        found
+    };
+    match pattern {
+        Atom(kind, fixed) => match (atom(message), fixed) {
+            (Some((found, value)), Some(wanted)) if found == *kind && value != *wanted => {
+                vec![format!("m{place} another value")]
+            }
+            (Some((found, _)), _) if found == *kind => vec![],
+            _ => vec![format!("m{place} another kind")],
+        },
+        Pattern::Pair(left, right) => both(message.pair(), (left, 'L'), (right, 'R'), "no pair"),
+        Pattern::Lock(body, key) => both(message.encrypted(), (body, 'B'), (key, 'K'), "no lock"),
+    }
+}
+
+/// Does the message have the form?
+pub fn fits(pattern: &Pattern, message: &Message) -> bool {
+    misfits(pattern, message, "").is_empty()
+}
+
+/// All that `misfits` can find with a pattern.
+pub fn possible_misfits(pattern: &Pattern, place: &str) -> Vec<String> {
+    let both = |first: &Pattern, turn, second: &Pattern, other, name: &str| {
+        let mut all = vec![format!("m{place} {name}")];
+        all.extend(possible_misfits(first, &format!("{place}{turn}")));
+        all.extend(possible_misfits(second, &format!("{place}{other}")));
+        all
+    };
+    match pattern {
+        Atom(_, None) => vec![format!("m{place} another kind")],
+        Atom(_, Some(_)) => {
+            vec![format!("m{place} another kind"), format!("m{place} another value")]
+        }
+        Pattern::Pair(left, right) => both(left, 'L', right, 'R', "no pair"),
+        Pattern::Lock(body, key) => both(body, 'B', key, 'K', "no lock"),
+    }
+}
+
+/// What an accepted step would send, given what its m holds.
+pub struct Sends {
+    pub a: u8,
+    pub b: u8,
+    pub nonce: u8,
+    pub key: u8,
+    pub ta: u32,
+}
+
+impl Sends {
+    pub fn messages(&self, realm: &mut Realm, step: u8) -> Vec<Message> {
+        let clock = Shape::Time(realm.clock);
+        let (a, b) = (Shape::Principal(self.a), Shape::Principal(self.b));
+        let (key, nonce) = (Shape::SessionKey(self.key), Shape::Nonce(self.nonce));
+        let next_key = Shape::SessionKey(realm.runs.len() as u8);
+        let next_nonce = Shape::Nonce(realm.runs.len() as u8);
+        let terms = &mut realm.terms;
+        let mut locked = |body: &[Shape], key: Shape| {
+            let (body, key) = (terms.list(body), terms.make(key));
+            terms.encrypt(body, key)
+        };
+        match step {
+            1 => vec![realm.terms.list(&[a, b, next_nonce])],
+            3 => vec![
+                locked(&[next_key.clone(), b, clock.clone(), nonce], Shape::LongTermKey(self.a)),
+                locked(&[next_key, a, clock], Shape::LongTermKey(self.b)),
+            ],
+            4 => vec![locked(&[a, clock], key)],
+            5 => vec![locked(&[Shape::Time(self.ta)], key)],
+            _ => vec![],
+        }
+    }
+}

@@ -1,0 +1,27 @@
+//! Seeded walk files that reach every record, step, refusal and table limit,
+//! and the table that counts what they reached.
+//!
+//! The generator drives the reference record by record, so that the next record
+//! can be chosen by what the tables hold.
+
+pub mod actions;
+pub mod cells;
+pub mod conditions;
+pub mod coverage;
+pub mod damage;
+pub mod edges;
+pub mod extremes;
+pub mod forms;
+pub mod limits;
+pub mod observer;
+pub mod random;
+pub mod scenes;
+pub mod vectors;
+pub mod walk;
+
+use random::Random;
+
+/// The walk file with this number. It depends on the seed and the number alone.
+pub fn walk_file(seed: u64, number: u64) -> Vec<u8> {
+    scenes::any_file(&mut Random::new(seed, number))
+}

@@ -1,0 +1,336 @@
+//! Follows a walk record by record and names the cells that each one meets.
+
+use std::collections::HashMap;
+
+use reference::file::{Header, Record, StepRecord, TermRecord};
+use reference::intruder::FIRST_OF_INTRUDER;
+use reference::realm::{Answer, Entry, Realm, Role, Run, MAX_ENTRIES, MAX_RUNS};
+use reference::refusal::Refusal;
+use reference::terms::{Message, MAX_TERMS};
+
+use crate::conditions::{facts, Facts};
+use crate::forms;
+
+const DEEP: usize = 200;
+
+pub struct Observer {
+    pub cells: Vec<String>,
+    realm: Realm,
+    depths: HashMap<Message, usize>,
+    /// Deliveries of step 5 that were refused, by run and m, with the number.
+    refused: HashMap<(u8, u16), u8>,
+}
+
+impl Observer {
+    pub fn new(header: Header) -> Observer {
+        let (cells, depths, refused) = (Vec::new(), HashMap::new(), HashMap::new());
+        Observer { realm: Realm::new(header), cells, depths, refused }
+    }
+
+    pub fn met(&mut self, cell: &str) {
+        self.cells.push(cell.to_string());
+    }
+
+    pub fn met_if(&mut self, condition: bool, cell: &str) {
+        if condition {
+            self.met(cell);
+        }
+    }
+
+    pub fn broken(&mut self, rest: &[u8]) {
+        self.met("file / refused 3");
+        let how = match rest {
+            [_] => "one byte",
+            [b'H', b'D', ..] => "second HD",
+            [b'T', b'M', ..] => "TM cut short",
+            [b'S', b'T', ..] => "ST cut short",
+            _ => "another mark",
+        };
+        self.met(&format!("file / refused 3 / {how}"));
+    }
+
+    pub fn take(&mut self, record: &Record) {
+        let facts = facts(&mut self.realm, record);
+        if let Record::Step(step) = record {
+            self.before_step(step, &facts);
+        }
+        let before = self.tables();
+        let answer = self.realm.apply(record);
+        let least = facts.applies.first().copied();
+        assert_eq!(answer.err().map(Refusal::number), least, "{record:?}");
+        assert!(answer.is_ok() || before == self.tables(), "changed by a refused {record:?}");
+        match record {
+            Record::Term(term) => self.term(term, &facts, answer),
+            Record::Step(step) => self.step(step, &facts, answer),
+        }
+    }
+
+    /// All that a refused record must leave alone. Terms and wire only grow, so
+    /// their sizes stand for them.
+    fn tables(&self) -> (u32, usize, usize, Vec<Run>, Vec<Entry>) {
+        let realm = &self.realm;
+        (
+            realm.clock,
+            realm.terms.count(),
+            realm.wire.len(),
+            realm.runs.clone(),
+            realm.cache.clone(),
+        )
+    }
+
+    /// A line for the answer, and one for each refusal that stood behind it.
+    fn refusal(&mut self, subject: &str, facts: &Facts, number: u8) {
+        self.met(&format!("{subject} / refused {number}"));
+        if let Some(detail) = facts.only_detail(number) {
+            self.met(&format!("{subject} / refused {number} / {detail}"));
+        }
+        for later in facts.applies.iter().skip(1) {
+            self.met(&format!("{subject} / refused {number} before {later}"));
+        }
+    }
+
+    fn term(&mut self, record: &TermRecord, facts: &Facts, answer: Result<Answer, Refusal>) {
+        let subject =
+            if record.kind > 6 { "TM other".into() } else { format!("TM {}", record.kind) };
+        if let Err(refusal) = answer {
+            return self.refusal(&subject, facts, refusal.number());
+        }
+        if facts.new_terms == Some(0) {
+            self.met(&format!("{subject} / old"));
+            return self.met_if(facts.free_terms == 0, &format!("{subject} / old / full table"));
+        }
+        self.met(&format!("{subject} / new"));
+        self.met_if(facts.free_terms == 1, &format!("{subject} / new / last place"));
+        let highest = matches!(record.kind, 2 | 4) && record.left == 95;
+        self.met_if(highest, &format!("{subject} / new / L is 95"));
+        let last = self.realm.terms.present()[self.realm.terms.count() - 1].clone();
+        let deep = self.depth(&last) > DEEP;
+        self.met_if(deep, &format!("{subject} / new / deeper than 200"));
+    }
+
+    /// Depths are kept, so each term is entered once.
+    fn depth(&mut self, message: &Message) -> usize {
+        if let Some(depth) = self.depths.get(message) {
+            return *depth;
+        }
+        let parts = message.pair().or(message.encrypted());
+        let parts = parts.map(|(first, second)| (first.clone(), second.clone()));
+        let depth =
+            parts.map_or(0, |(first, second)| 1 + self.depth(&first).max(self.depth(&second)));
+        self.depths.insert(message.clone(), depth);
+        depth
+    }
+
+    fn step(&mut self, record: &StepRecord, facts: &Facts, answer: Result<Answer, Refusal>) {
+        let step = record.step;
+        let subject = if (1..=10).contains(&step) {
+            format!("step {step}")
+        } else {
+            "step other".to_string()
+        };
+        match answer {
+            Ok(answer) => {
+                self.met(&format!("{subject} / ok"));
+                self.met_if(
+                    answer == Answer::Run(MAX_RUNS - 1),
+                    &format!("{subject} / ok / run 63"),
+                );
+                let new_terms = facts.new_terms.filter(|_| matches!(step, 1 | 3 | 4 | 5));
+                let full = self.realm.terms.count() == MAX_TERMS;
+                self.met_if(full && new_terms == Some(0), &format!("{subject} / ok / full table"));
+                self.met_if(full && new_terms > Some(0), &format!("{subject} / ok / last place"));
+                let last_entry = step == 5 && self.realm.cache.len() == MAX_ENTRIES;
+                self.met_if(last_entry, "step 5 / ok / last entry");
+            }
+            Err(refusal) => {
+                let number = refusal.number();
+                self.refusal(&subject, facts, number);
+                let short = number == 20 && facts.new_terms == Some(facts.free_terms + 1);
+                self.met_if(short, &format!("{subject} / refused 20 / one place short"));
+                if step == 5 {
+                    self.refused.insert((record.run, record.message), number);
+                }
+            }
+        }
+    }
+
+    /// Cells that are read from the tables as the step finds them.
+    fn before_step(&mut self, record: &StepRecord, facts: &Facts) {
+        let answer = facts.applies.first().copied();
+        match record.step {
+            3..=6 | 10 => {
+                self.message_cells(record, facts, answer);
+                self.time_cells(record.step, facts, answer);
+            }
+            7 => {
+                let clock = self.realm.clock;
+                let ok = answer.is_none();
+                self.met_if(ok && record.time == clock, "step 7 / ok / the same clock");
+                self.met_if(ok && record.time == u32::MAX, "step 7 / ok / the highest clock");
+                let one_less = answer == Some(12) && record.time + 1 == clock;
+                self.met_if(one_less, "step 7 / refused 12 / one less");
+            }
+            8 if answer.is_none() => self.forget_cells(record.b),
+            9 if answer.is_none() => {
+                let on_wire = |m: &Message| m.session_key() == Some(record.run);
+                let again = self.realm.wire.iter().any(on_wire);
+                self.met_if(again, "step 9 / ok / again");
+            }
+            _ => {}
+        }
+        if record.step == 5 {
+            self.entry_cells(record, facts, answer);
+        }
+    }
+
+    fn message_cells(&mut self, record: &StepRecord, facts: &Facts, answer: Option<u8>) {
+        let step = record.step;
+        let Some(message) = facts.message.clone() else { return };
+        let on_wire = self.realm.wire.contains(&message);
+        if step == 10 {
+            return self.derived_cells(&message, on_wire, answer);
+        }
+        let (None, Some(read)) = (answer, facts.read) else { return };
+        let mut ok = |condition: bool, how: &str| {
+            self.met_if(condition, &format!("step {step} / ok / {how}"))
+        };
+        if step != 5 {
+            ok(on_wire, "m on the wire");
+            ok(!on_wire, "m made by the intruder");
+        }
+        if step == 3 {
+            ok(read.nonce >= FIRST_OF_INTRUDER, "nonce of the intruder");
+            ok(read.nonce < FIRST_OF_INTRUDER, "nonce of another run");
+        } else if step != 6 {
+            ok(read.key >= FIRST_OF_INTRUDER, "key of the intruder");
+            ok(read.key < FIRST_OF_INTRUDER, "key of a server run");
+        }
+        if let (5, Some((ticket, authenticator))) = (step, message.pair()) {
+            let wire = &self.realm.wire;
+            let (ticket, authenticator) = (wire.contains(ticket), wire.contains(authenticator));
+            self.met_if(ticket && authenticator, "step 5 / ok / both halves on the wire");
+            self.met_if(!authenticator, "step 5 / ok / authenticator made by the intruder");
+            self.met_if(!ticket, "step 5 / ok / ticket made by the intruder");
+        }
+    }
+
+    fn derived_cells(&mut self, message: &Message, on_wire: bool, answer: Option<u8>) {
+        let deep = self.depth(message) > DEEP;
+        let is_atom = forms::atom(message).is_some();
+        let number = match forms::atom(message) {
+            Some((forms::Kind::Nonce, number)) => format!("nonce {number}"),
+            Some((forms::Kind::SessionKey, number)) => format!("session key {number}"),
+            Some((forms::Kind::LongTermKey, 0)) => "the server's long-term key".into(),
+            _ => String::new(),
+        };
+        match answer {
+            _ if number.is_empty() => {}
+            None => self.met(&format!("step 10 / ok / {number}")),
+            Some(15) => self.met(&format!("step 10 / refused 15 / {number}")),
+            _ => {}
+        }
+        if answer.is_none() {
+            self.met_if(on_wire, "step 10 / ok / m on the wire");
+            let secret = match forms::atom(message) {
+                Some((forms::Kind::SessionKey | forms::Kind::Nonce, number)) => number < 64,
+                _ => false,
+            };
+            self.met_if(!on_wire && secret, "step 10 / ok / m opened by the intruder");
+            self.met_if(!on_wire && !is_atom, "step 10 / ok / m made by the intruder");
+            self.met_if(deep, "step 10 / ok / deeper than 200");
+        }
+        if answer == Some(15) {
+            let known = self.realm.derivable();
+            let key_missing = message.encrypted().is_some_and(|(body, _)| known.contains(body));
+            self.met_if(key_missing, "step 10 / refused 15 / a lock, its key alone missing");
+            self.met_if(deep, "step 10 / refused 15 / deeper than 200");
+        }
+    }
+
+    fn time_cells(&mut self, step: u8, facts: &Facts, answer: Option<u8>) {
+        let Some(read) = facts.read else { return };
+        let header = self.realm.header;
+        let clock = u64::from(self.realm.clock);
+        let ta = read.ta.filter(|_| step == 5);
+        let lives = [
+            (read.ts, header.ticket_life, "Ts + Ls", 16),
+            (ta, header.authenticator_life, "Ta + La", 17),
+        ];
+        for (start, life, name, number) in lives {
+            let Some(start) = start else { continue };
+            let end = u64::from(start) + u64::from(life);
+            let ok = answer.is_none();
+            self.met_if(
+                ok && clock + 1 == end,
+                &format!("step {step} / ok / one tick before {name}"),
+            );
+            let wraps = end > u64::from(u32::MAX) && end - (1 << 32) <= clock;
+            self.met_if(ok && wraps, &format!("step {step} / ok / {name} past 32 bits"));
+            let highest = ok && wraps && clock == u64::from(u32::MAX);
+            self.met_if(
+                highest,
+                &format!("step {step} / ok / {name} past 32 bits, the highest clock"),
+            );
+            let at = answer == Some(number) && clock == end;
+            self.met_if(at, &format!("step {step} / refused {number} / at the tick"));
+        }
+        let ahead = answer.is_none() && ta.is_some_and(|ta| u64::from(ta) > clock);
+        self.met_if(ahead, "step 5 / ok / Ta above the clock");
+    }
+
+    fn forget_cells(&mut self, b: u8) {
+        self.met_if(b == 0, "step 8 / ok / b is 0");
+        let (clock, life) =
+            (u64::from(self.realm.clock), u64::from(self.realm.header.authenticator_life));
+        for entry in self.realm.cache.clone() {
+            let end = u64::from(entry.authenticator_time) + life;
+            let own = entry.responder == b;
+            self.met_if(own && end == clock, "step 8 / ok / an entry goes at its tick");
+            self.met_if(own && end == clock + 1, "step 8 / ok / an entry stays one tick before");
+            self.met_if(
+                !own && end <= clock,
+                "step 8 / ok / an entry of another stays, though over",
+            );
+            let wraps = end > u64::from(u32::MAX) && end - (1 << 32) <= clock;
+            self.met_if(own && wraps, "step 8 / ok / an entry stays, its sum past 32 bits");
+            let highest = own && wraps && clock == u64::from(u32::MAX);
+            self.met_if(
+                highest,
+                "step 8 / ok / an entry stays, its sum past 32 bits, the highest clock",
+            );
+        }
+    }
+
+    fn entry_cells(&mut self, record: &StepRecord, facts: &Facts, answer: Option<u8>) {
+        let Some(read) = facts.read else { return };
+        let own = (read.b, read.key, read.ta.unwrap_or(0));
+        if answer == Some(18) {
+            let other_a = self.realm.runs.iter().any(|run| {
+                let held =
+                    run.held.map(|h| (run.b, h.session_key, h.authenticator_time.unwrap_or(0)));
+                run.role == Role::Responder && held == Some(own) && run.a != read.a
+            });
+            self.met_if(other_a, "step 5 / refused 18 / by a run for another a");
+        }
+        if answer.is_some() {
+            return;
+        }
+        let (mut b, mut key, mut ta) = (false, false, false);
+        for entry in &self.realm.cache {
+            let same = (
+                entry.responder == own.0,
+                entry.session_key == own.1,
+                entry.authenticator_time == own.2,
+            );
+            b |= same == (false, true, true);
+            key |= same == (true, false, true);
+            ta |= same == (true, true, false);
+        }
+        self.met_if(b, "step 5 / ok / an entry differs in b alone");
+        self.met_if(key, "step 5 / ok / an entry differs in K alone");
+        self.met_if(ta, "step 5 / ok / an entry differs in Ta alone");
+        let refused = self.refused.get(&(record.run, record.message)).copied();
+        self.met_if(refused == Some(15), "step 5 / ok / refused 15 before");
+        self.met_if(refused == Some(19), "step 5 / ok / refused 19 before");
+    }
+}

@@ -1,0 +1,121 @@
+//! A walk being written: its bytes, and the realm as it stands after them.
+
+use reference::file::{Header, Record, StepRecord, TermRecord};
+use reference::realm::{Answer, Realm};
+use reference::refusal::Refusal;
+use reference::terms::{Message, Shape};
+
+use crate::random::Random;
+
+pub struct Walk {
+    pub bytes: Vec<u8>,
+    pub realm: Realm,
+    pub random: Random,
+    /// The ST records so far, accepted and refused, to be offered again.
+    pub past: Vec<StepRecord>,
+}
+
+pub fn header_bytes(header: &Header) -> Vec<u8> {
+    let mut bytes = b"HD".to_vec();
+    bytes.push(header.principals);
+    bytes.extend(header.flags.to_be_bytes());
+    bytes.extend(header.ticket_life.to_be_bytes());
+    bytes.extend(header.authenticator_life.to_be_bytes());
+    bytes
+}
+
+pub fn record_bytes(record: &Record) -> Vec<u8> {
+    let mut bytes = record.mark().as_bytes().to_vec();
+    match record {
+        Record::Term(term) => {
+            bytes.push(term.kind);
+            bytes.extend(term.left.to_be_bytes());
+            bytes.extend(term.right.to_be_bytes());
+        }
+        Record::Step(step) => {
+            bytes.extend([step.step, step.run, step.a, step.b]);
+            bytes.extend(step.message.to_be_bytes());
+            bytes.extend(step.time.to_be_bytes());
+        }
+    }
+    bytes
+}
+
+impl Walk {
+    pub fn new(random: Random, header: Header) -> Walk {
+        Walk { bytes: header_bytes(&header), realm: Realm::new(header), random, past: Vec::new() }
+    }
+
+    pub fn put(&mut self, record: Record) -> Result<Answer, Refusal> {
+        self.bytes.extend(record_bytes(&record));
+        self.realm.apply(&record)
+    }
+
+    pub fn step(&mut self, record: StepRecord) -> Result<Answer, Refusal> {
+        self.past.push(record);
+        self.put(Record::Step(record))
+    }
+
+    /// A step whose answer does not matter here.
+    pub fn offer(&mut self, record: StepRecord) {
+        let _ = self.step(record);
+    }
+
+    pub fn term(&mut self, kind: u8, left: u16, right: u16) -> Result<Answer, Refusal> {
+        self.put(Record::Term(TermRecord { kind, left, right }))
+    }
+
+    /// Writes the TM records that make a term of the message, as far as they
+    /// fit, and gives its number.
+    pub fn spell(&mut self, message: &Message) -> Option<u16> {
+        for part in self.realm.terms.missing(std::slice::from_ref(message)) {
+            let record = self.term_record(&part);
+            self.put(Record::Term(record)).ok()?;
+        }
+        self.realm.terms.number(message)
+    }
+
+    /// The TM record of a message whose parts are terms.
+    pub fn term_record(&self, message: &Message) -> TermRecord {
+        let number = |part: &Message| self.realm.terms.number(part).expect("a part is a term");
+        let (kind, left, right) = match message.shape() {
+            Shape::Principal(p) => (0, u16::from(*p), 0),
+            Shape::Time(t) => (1, (t >> 16) as u16, *t as u16),
+            Shape::Nonce(i) => (2, u16::from(*i), 0),
+            Shape::LongTermKey(p) => (3, u16::from(*p), 0),
+            Shape::SessionKey(i) => (4, u16::from(*i), 0),
+            Shape::Pair(first, second) => (5, number(first), number(second)),
+            Shape::Encrypted(body, key) => (6, number(body), number(key)),
+        };
+        TermRecord { kind, left, right }
+    }
+
+    pub fn make(&mut self, shape: Shape) -> Message {
+        self.realm.terms.make(shape)
+    }
+
+    pub fn principals(&self) -> u8 {
+        self.realm.header.principals
+    }
+
+    /// A principal other than the server.
+    pub fn client(&mut self) -> u8 {
+        self.random.between(1, u32::from(self.principals()) - 1) as u8
+    }
+
+    /// Two principals that a run can be opened for.
+    pub fn two_clients(&mut self) -> (u8, u8) {
+        let a = self.client();
+        let mut b = self.client();
+        while b == a {
+            b = self.client();
+        }
+        (a, b)
+    }
+
+    /// The terms on the wire, by rising number.
+    pub fn wire(&self) -> Vec<Message> {
+        let on_wire = |message: &&Message| self.realm.wire.contains(*message);
+        self.realm.terms.present().iter().filter(on_wire).cloned().collect()
+    }
+}

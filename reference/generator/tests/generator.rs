@@ -1,0 +1,96 @@
+//! The generator: the same files for the same seed, every cell met, and files
+//! that the reference reads as they were meant.
+
+use std::collections::HashSet;
+
+use generator::cells::{main_cells, refusals_of_kind, refusals_of_step};
+use generator::coverage::{cells_met, Tally};
+use generator::edges::edge_cells;
+use generator::{vectors, walk_file};
+
+const SEED: u64 = 1;
+
+#[test]
+fn a_file_depends_on_seed_and_number_alone() {
+    let first: Vec<Vec<u8>> = (0..200).map(|number| walk_file(SEED, number)).collect();
+    let again: Vec<Vec<u8>> = (0..200).rev().map(|number| walk_file(SEED, number)).collect();
+    assert!(first.iter().eq(again.iter().rev()));
+    let other: Vec<Vec<u8>> = (0..200).map(|number| walk_file(SEED + 1, number)).collect();
+    assert_ne!(first, other);
+    let distinct: HashSet<&Vec<u8>> = first.iter().chain(&other).collect();
+    assert!(distinct.len() > 380);
+}
+
+#[test]
+fn every_main_cell_is_met_soon_and_none_that_is_ruled_out() {
+    let mut tally = Tally::default();
+    for number in 0..1_500 {
+        tally.add(&walk_file(SEED, number));
+    }
+    let main = main_cells();
+    for cell in &main {
+        assert!(tally.count(cell) > 0, "never met: {cell}");
+    }
+    let (_, complaints) = tally.report();
+    assert!(
+        complaints.iter().all(|complaint| complaint.starts_with("never met")),
+        "{complaints:?}"
+    );
+}
+
+#[test]
+fn cells_are_listed_once() {
+    let all: Vec<String> = main_cells().into_iter().chain(edge_cells()).collect();
+    let distinct: HashSet<&String> = all.iter().collect();
+    assert_eq!(distinct.len(), all.len());
+}
+
+#[test]
+fn refusals_of_steps_are_those_of_the_column() {
+    // The column "steps" of the state table, turned round.
+    let column: [(u8, &[u8]); 10] = [
+        (11, &[4, 5, 6, 9]),
+        (12, &[7]),
+        (13, &[1, 2, 3]),
+        (14, &[3, 4, 5, 6]),
+        (15, &[3, 4, 5, 6, 10]),
+        (16, &[4, 5, 6]),
+        (17, &[5]),
+        (18, &[5]),
+        (19, &[5]),
+        (20, &[1, 3, 4, 5]),
+    ];
+    for (refusal, steps) in column {
+        for step in 1..=10 {
+            assert_eq!(refusals_of_step(step).contains(&refusal), steps.contains(&step));
+        }
+    }
+    assert!((0..=6).all(|kind| refusals_of_kind(kind).contains(&20)));
+}
+
+#[test]
+fn a_cell_names_what_happened() {
+    let header = b"HD\x03\0\0\0\0\0\x64\0\0\0\x0a".to_vec();
+    let met = |records: &[u8]| cells_met(&[header.clone(), records.to_vec()].concat());
+    let has =
+        |cells: Vec<String>, cell: &str| assert!(cells.contains(&cell.to_string()), "{cells:?}");
+    has(met(b""), "HD / ok / nothing follows");
+    has(met(b"TM\x00\0\x03\0\x01"), "TM 0 / refused 5 before 6");
+    has(met(b"TM\x00\0\x03\0\0"), "TM 0 / refused 6 / L is n");
+    has(met(b"TM\x09\0\x03\0\0"), "TM other / refused 4");
+    has(met(b"ST\x01\0\x01\x01\0\0\0\0\0\0"), "step 1 / refused 6 / a equals b");
+    has(met(b"ST\x07\0\0\0\0\0\0\0\0\0"), "step 7 / ok / the same clock");
+    has(met(b"ST\x0b\0\0\0\0\0\0\0\0\0"), "step other / refused 4");
+    has(met(b"ST\x0a\0\0\0\0\0\0\0\0"), "file / refused 3 / ST cut short");
+    has(cells_met(b""), "file / refused 1 / empty");
+    has(cells_met(b"HD\x03\0\x01\0\0\0\x01\0\0\0\x01"), "file / refused 2 / flag on 0");
+}
+
+#[test]
+fn vectors_stay_small_and_add_something() {
+    let (chosen, _) = vectors::choose(SEED, 40);
+    assert_eq!(chosen.len(), 40);
+    let names: HashSet<&String> = chosen.iter().map(|vector| &vector.name).collect();
+    assert_eq!(names.len(), 40);
+    assert!(chosen.iter().all(|vector| vector.file.len() <= 6_000));
+}

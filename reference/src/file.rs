@@ -1,0 +1,136 @@
+//! From bytes to a header and records: the layout of a walk file and the
+//! refusals 1, 2 and 3. Numbers are high byte first.
+
+use crate::refusal::Refusal;
+
+pub const MAX_FILE_BYTES: usize = 65_536;
+pub const MIN_PRINCIPALS: u8 = 3;
+pub const MAX_PRINCIPALS: u8 = 16;
+
+pub const HEADER_BYTES: usize = 13;
+pub const TERM_BYTES: usize = 7;
+pub const STEP_BYTES: usize = 12;
+
+/// The record HD: what holds for the whole walk.
+#[derive(Clone, Copy, Debug, PartialEq, Eq)]
+pub struct Header {
+    /// n, the number of principals (the paper's parties).
+    pub principals: u8,
+    /// Bit p set marks principal p bad.
+    pub flags: u16,
+    /// Ls.
+    pub ticket_life: u32,
+    /// La.
+    pub authenticator_life: u32,
+}
+
+impl Header {
+    pub fn is_bad(&self, principal: u8) -> bool {
+        self.flags >> principal & 1 == 1
+    }
+
+    /// Refusal 2, condition by condition.
+    fn check(self) -> Result<Header, Refusal> {
+        let n = self.principals;
+        let n_in_range = (MIN_PRINCIPALS..=MAX_PRINCIPALS).contains(&n);
+        let flag_on_server = self.flags & 1 == 1;
+        let flag_above = n_in_range && u32::from(self.flags) >> n != 0;
+        let life_of_0 = self.ticket_life == 0 || self.authenticator_life == 0;
+        if !n_in_range || flag_on_server || flag_above || life_of_0 {
+            return Err(Refusal::BadHeader);
+        }
+        Ok(self)
+    }
+}
+
+/// A whole record after the header, its fields not yet looked at.
+#[derive(Clone, Copy, Debug, PartialEq, Eq)]
+pub enum Record {
+    Term(TermRecord),
+    Step(StepRecord),
+}
+
+/// The record TM.
+#[derive(Clone, Copy, Debug, Default, PartialEq, Eq)]
+pub struct TermRecord {
+    pub kind: u8,
+    pub left: u16,
+    pub right: u16,
+}
+
+/// The record ST.
+#[derive(Clone, Copy, Debug, Default, PartialEq, Eq)]
+pub struct StepRecord {
+    pub step: u8,
+    pub run: u8,
+    pub a: u8,
+    pub b: u8,
+    pub message: u16,
+    pub time: u32,
+}
+
+impl Record {
+    pub fn mark(&self) -> &'static str {
+        match self {
+            Record::Term(_) => "TM",
+            Record::Step(_) => "ST",
+        }
+    }
+}
+
+/// The header of a file and the bytes after it; refusals 1 and 2.
+pub fn read_header(file: &[u8]) -> Result<(Header, &[u8]), Refusal> {
+    if file.len() > MAX_FILE_BYTES || file.len() < HEADER_BYTES || !file.starts_with(b"HD") {
+        return Err(Refusal::NoHeader);
+    }
+    let (bytes, rest) = file.split_at(HEADER_BYTES);
+    let header = Header {
+        principals: bytes[2],
+        flags: number(&bytes[3..5]) as u16,
+        ticket_life: number(&bytes[5..9]),
+        authenticator_life: number(&bytes[9..13]),
+    };
+    Ok((header.check()?, rest))
+}
+
+/// The next record and the bytes after it; refusal 3. `None` at the end.
+pub fn read_record(bytes: &[u8]) -> Option<Result<(Record, &[u8]), Refusal>> {
+    if bytes.is_empty() {
+        return None;
+    }
+    let length = match bytes {
+        [b'T', b'M', ..] => TERM_BYTES,
+        [b'S', b'T', ..] => STEP_BYTES,
+        _ => return Some(Err(Refusal::BrokenRecord)),
+    };
+    if bytes.len() < length {
+        return Some(Err(Refusal::BrokenRecord));
+    }
+    let (record, rest) = bytes.split_at(length);
+    let record = if length == TERM_BYTES { term(record) } else { step(record) };
+    Some(Ok((record, rest)))
+}
+
+fn term(bytes: &[u8]) -> Record {
+    Record::Term(TermRecord {
+        kind: bytes[2],
+        left: number(&bytes[3..5]) as u16,
+        right: number(&bytes[5..7]) as u16,
+    })
+}
+
+fn step(bytes: &[u8]) -> Record {
+    Record::Step(StepRecord {
+        step: bytes[2],
+        run: bytes[3],
+        a: bytes[4],
+        b: bytes[5],
+        message: number(&bytes[6..8]) as u16,
+        time: number(&bytes[8..12]),
+    })
+}
+
+/// A number of at most four bytes, high byte first.
+fn number(bytes: &[u8]) -> u32 {
+    bytes.iter().fold(0, |sum, byte| sum * 256 + u32::from(*byte))
+}

@@ -1,0 +1,209 @@
+//! The realm (the paper's hall): its tables, its clock, and the records that
+//! come to it. Refusals 4, 5 and 6 are settled here; the steps do the rest.
+
+use std::collections::HashSet;
+
+use crate::file::{Header, Record, StepRecord, TermRecord};
+use crate::intruder;
+use crate::refusal::Refusal;
+use crate::terms::{Message, Shape, Terms, MAX_NONCE_OR_KEY};
+
+pub const MAX_RUNS: usize = 64;
+pub const MAX_ENTRIES: usize = 16;
+
+#[derive(Clone, Copy, Debug, PartialEq, Eq)]
+pub enum Role {
+    Initiator,
+    Responder,
+    Server,
+}
+
+#[derive(Clone, Copy, Debug, PartialEq, Eq)]
+pub enum Stage {
+    Opened,
+    AfterStep4,
+    Done,
+}
+
+/// What a run holds once taken: the session key, its time and, in all but
+/// server runs, the authenticator's time.
+#[derive(Clone, Copy, Debug, PartialEq, Eq)]
+pub struct Held {
+    pub session_key: u8,
+    pub ticket_time: u32,
+    pub authenticator_time: Option<u32>,
+}
+
+#[derive(Clone, Copy, Debug, PartialEq, Eq)]
+pub struct Run {
+    pub role: Role,
+    pub a: u8,
+    pub b: u8,
+    pub stage: Stage,
+    pub held: Option<Held>,
+}
+
+/// An entry of the replay cache: b, K and Ta.
+#[derive(Clone, Copy, Debug, PartialEq, Eq)]
+pub struct Entry {
+    pub responder: u8,
+    pub session_key: u8,
+    pub authenticator_time: u32,
+}
+
+pub struct Realm {
+    pub header: Header,
+    pub clock: u32,
+    pub terms: Terms,
+    pub wire: HashSet<Message>,
+    pub runs: Vec<Run>,
+    pub cache: Vec<Entry>,
+}
+
+/// What an accepted record prints.
+#[derive(Clone, Copy, Debug, PartialEq, Eq)]
+pub enum Answer {
+    Term(u16),
+    Run(usize),
+    Done,
+}
+
+/// Which fields a step uses, by the paper's column "uses".
+#[derive(Clone, Copy, Debug, Default)]
+pub struct Uses {
+    pub run: bool,
+    pub a: bool,
+    pub b: bool,
+    pub message: bool,
+    pub time: bool,
+}
+
+/// `None` for a step that does not exist.
+pub fn uses(step: u8) -> Option<Uses> {
+    let none = Uses::default();
+    Some(match step {
+        1 | 2 => Uses { a: true, b: true, ..none },
+        3 | 10 => Uses { message: true, ..none },
+        4..=6 => Uses { run: true, message: true, ..none },
+        7 => Uses { time: true, ..none },
+        8 => Uses { b: true, ..none },
+        9 => Uses { run: true, ..none },
+        _ => return None,
+    })
+}
+
+impl Realm {
+    /// "A new hall has clock 0 and empty tables."
+    pub fn new(header: Header) -> Realm {
+        Realm {
+            header,
+            clock: 0,
+            terms: Terms::default(),
+            wire: HashSet::new(),
+            runs: Vec::new(),
+            cache: Vec::new(),
+        }
+    }
+
+    /// Takes one record. A refused one leaves everything as it was.
+    pub fn apply(&mut self, record: &Record) -> Result<Answer, Refusal> {
+        match record {
+            Record::Term(record) => self.add_term(record),
+            Record::Step(record) => {
+                self.check_step(record)?;
+                self.take_step(record)
+            }
+        }
+    }
+
+    /// What the intruder can derive among the terms present.
+    pub fn derivable(&self) -> HashSet<Message> {
+        intruder::derivable(&self.header, &self.terms, &self.wire)
+    }
+
+    fn add_term(&mut self, record: &TermRecord) -> Result<Answer, Refusal> {
+        let message = self.term_of(record)?;
+        if let Some(number) = self.terms.number(&message) {
+            return Ok(Answer::Term(number));
+        }
+        let missing = self.terms.missing(&[message]);
+        if !self.terms.has_room_for(missing.len()) {
+            return Err(Refusal::TermsFull);
+        }
+        self.terms.add(missing);
+        Ok(Answer::Term(self.terms.count() as u16 - 1))
+    }
+
+    /// The message that a TM record names; refusals 4, 5 and 6.
+    fn term_of(&mut self, record: &TermRecord) -> Result<Message, Refusal> {
+        let TermRecord { kind, left, right } = *record;
+        if kind > 6 {
+            return Err(Refusal::UnknownOperation);
+        }
+        if matches!(kind, 0 | 2 | 3 | 4) && right != 0 {
+            return Err(Refusal::UnusedField);
+        }
+        let shape = match kind {
+            0 => Shape::Principal(self.principal(left)?),
+            1 => Shape::Time(u32::from(left) * 65_536 + u32::from(right)),
+            2 => Shape::Nonce(nonce_or_key(left)?),
+            3 => Shape::LongTermKey(self.principal(left)?),
+            4 => Shape::SessionKey(nonce_or_key(left)?),
+            5 => Shape::Pair(self.term(left)?, self.term(right)?),
+            _ => Shape::Encrypted(self.term(left)?, self.key(right)?),
+        };
+        Ok(self.terms.make(shape))
+    }
+
+    fn principal(&self, number: u16) -> Result<u8, Refusal> {
+        if number < u16::from(self.header.principals) {
+            Ok(number as u8)
+        } else {
+            Err(Refusal::BadReference)
+        }
+    }
+
+    fn term(&self, number: u16) -> Result<Message, Refusal> {
+        self.terms.at(number).cloned().ok_or(Refusal::BadReference)
+    }
+
+    fn key(&self, number: u16) -> Result<Message, Refusal> {
+        let key = self.term(number)?;
+        match key.shape() {
+            Shape::LongTermKey(_) | Shape::SessionKey(_) => Ok(key),
+            _ => Err(Refusal::BadReference),
+        }
+    }
+
+    /// Refusals 4, 5 and 6 of an ST record.
+    fn check_step(&self, record: &StepRecord) -> Result<(), Refusal> {
+        let uses = uses(record.step).ok_or(Refusal::UnknownOperation)?;
+        let unused_field_set = !uses.run && record.run != 0
+            || !uses.a && record.a != 0
+            || !uses.b && record.b != 0
+            || !uses.message && record.message != 0
+            || !uses.time && record.time != 0;
+        if unused_field_set {
+            return Err(Refusal::UnusedField);
+        }
+        let n = self.header.principals;
+        let bad_reference = uses.a && record.a >= n
+            || uses.b && record.b >= n
+            || uses.run && usize::from(record.run) >= self.runs.len()
+            || uses.message && usize::from(record.message) >= self.terms.count();
+        let opens_for_two = matches!(record.step, 1 | 2);
+        let barred = record.a == 0 || record.b == 0 || record.a == record.b;
+        if bad_reference || opens_for_two && barred {
+            return Err(Refusal::BadReference);
+        }
+        Ok(())
+    }
+}
+
+fn nonce_or_key(number: u16) -> Result<u8, Refusal> {
+    if number <= u16::from(MAX_NONCE_OR_KEY) {
+        Ok(number as u8)
+    } else {
+        Err(Refusal::BadReference)
+    }
+}

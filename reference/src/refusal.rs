@@ -1,0 +1,51 @@
+//! The numbers by which a record is turned away.
+
+/// A refusal is its number alone. Number 10 is missing: it is given for tables
+/// that a library caller hands in, and no file can make such tables.
+#[derive(Clone, Copy, Debug, PartialEq, Eq, PartialOrd, Ord, Hash)]
+#[repr(u8)]
+pub enum Refusal {
+    /// The file is too long, or has no whole header first.
+    NoHeader = 1,
+    /// A value of the header is out of its range.
+    BadHeader = 2,
+    /// A mark is unknown, or a record is cut short.
+    BrokenRecord = 3,
+    /// The kind or the step does not exist.
+    UnknownOperation = 4,
+    /// A field that the record does not use is not 0.
+    UnusedField = 5,
+    /// A field names something that is not there.
+    BadReference = 6,
+    /// The run's role or stage does not fit.
+    WrongStage = 11,
+    /// The clock would go back.
+    ClockBack = 12,
+    /// All runs are taken.
+    RunsFull = 13,
+    /// The message has not the step's form.
+    WrongForm = 14,
+    /// The intruder cannot derive the message.
+    NotDerivable = 15,
+    /// The ticket's life is over.
+    TicketExpired = 16,
+    /// The authenticator's life is over.
+    AuthenticatorExpired = 17,
+    /// The delivery is in the replay cache.
+    Replayed = 18,
+    /// The replay cache has no place left.
+    CacheFull = 19,
+    /// The terms to be added do not all fit.
+    TermsFull = 20,
+}
+
+impl Refusal {
+    pub fn number(self) -> u8 {
+        self as u8
+    }
+
+    /// "After 1, 2 or 3 reading ends", and they print `file` for the mark.
+    pub fn ends_reading(self) -> bool {
+        self <= Refusal::BrokenRecord
+    }
+}

@@ -1,0 +1,285 @@
+//! The steps 1 to 10: for each its refusals in rising order, then its effect.
+//! The fields of the record have passed the refusals 4, 5 and 6 before.
+
+use crate::file::StepRecord;
+use crate::realm::{Answer, Entry, Held, Realm, Role, Run, Stage, MAX_ENTRIES, MAX_RUNS};
+use crate::refusal::Refusal;
+use crate::terms::{Message, Shape};
+
+/// Step 3's m: [a, b, any nonce N].
+struct Request {
+    a: u8,
+    b: u8,
+    nonce: u8,
+}
+
+/// K and Ts, as the initiator's part and the ticket carry them.
+#[derive(Clone, Copy)]
+struct Ticket {
+    session_key: u8,
+    time: u32,
+}
+
+impl Realm {
+    pub(crate) fn take_step(&mut self, record: &StepRecord) -> Result<Answer, Refusal> {
+        let run = usize::from(record.run);
+        let message = self.terms.at(record.message).cloned();
+        let message = || message.ok_or(Refusal::BadReference);
+        match record.step {
+            1 => self.open_initiator(record.a, record.b),
+            2 => self.open_responder(record.a, record.b),
+            3 => self.serve(&message()?),
+            4 => self.initiator_takes_key(run, &message()?),
+            5 => self.responder_accepts(run, &message()?),
+            6 => self.initiator_finishes(run, &message()?),
+            7 => self.set_clock(record.time),
+            8 => self.forget(record.b),
+            9 => self.leak(run),
+            10 => self.check_derivable(&message()?).map(|()| Answer::Done),
+            _ => Err(Refusal::UnknownOperation),
+        }
+    }
+
+    /// Step 1 opens an initiator run r and sends [a, b, nonce r].
+    fn open_initiator(&mut self, a: u8, b: u8) -> Result<Answer, Refusal> {
+        self.check_room_for_run()?;
+        let nonce = Shape::Nonce(self.next_run());
+        let request = self.terms.list(&[Shape::Principal(a), Shape::Principal(b), nonce]);
+        self.send(vec![request])?;
+        Ok(self.open(Run { role: Role::Initiator, a, b, stage: Stage::Opened, held: None }))
+    }
+
+    /// Step 2 opens a responder run of b for a.
+    fn open_responder(&mut self, a: u8, b: u8) -> Result<Answer, Refusal> {
+        self.check_room_for_run()?;
+        Ok(self.open(Run { role: Role::Responder, a, b, stage: Stage::Opened, held: None }))
+    }
+
+    /// Step 3 opens a server run r; K is session key r, Ts the clock. It sends
+    /// {K, b, Ts, N} under a's key, then {K, a, Ts} under b's key.
+    fn serve(&mut self, message: &Message) -> Result<Answer, Refusal> {
+        self.check_room_for_run()?;
+        let Request { a, b, nonce } = read_request(message).ok_or(Refusal::WrongForm)?;
+        self.check_derivable(message)?;
+        let session_key = self.next_run();
+        let (key, time) = (Shape::SessionKey(session_key), Shape::Time(self.clock));
+        let for_a = [key.clone(), Shape::Principal(b), time.clone(), Shape::Nonce(nonce)];
+        let for_a = self.encrypted_list(&for_a, Shape::LongTermKey(a));
+        let ticket = self.encrypted_list(&[key, Shape::Principal(a), time], Shape::LongTermKey(b));
+        self.send(vec![for_a, ticket])?;
+        let held = Held { session_key, ticket_time: self.clock, authenticator_time: None };
+        Ok(self.open(Run { role: Role::Server, a, b, stage: Stage::Done, held: Some(held) }))
+    }
+
+    /// Step 4 takes {K, b, Ts, own nonce} under a's key; Ta becomes the clock.
+    /// It sends {a, Ta}K.
+    fn initiator_takes_key(&mut self, run: usize, message: &Message) -> Result<Answer, Refusal> {
+        let Run { a, b, .. } = self.check_run(run, Role::Initiator, Stage::Opened)?;
+        let ticket = read_initiator_part(message, a, b, run).ok_or(Refusal::WrongForm)?;
+        self.check_derivable(message)?;
+        self.check_ticket_alive(ticket.time)?;
+        let authenticator = [Shape::Principal(a), Shape::Time(self.clock)];
+        let key = Shape::SessionKey(ticket.session_key);
+        let authenticator = self.encrypted_list(&authenticator, key);
+        self.send(vec![authenticator])?;
+        self.hold(run, Stage::AfterStep4, ticket, self.clock);
+        Ok(Answer::Run(run))
+    }
+
+    /// Step 5 takes the pair of {K, a, Ts} under b's key and {a, Ta}K. It
+    /// remembers b, K, Ta and sends {Ta}K.
+    fn responder_accepts(&mut self, run: usize, message: &Message) -> Result<Answer, Refusal> {
+        let Run { a, b, .. } = self.check_run(run, Role::Responder, Stage::Opened)?;
+        let (ticket, ta) = read_delivery(message, a, b).ok_or(Refusal::WrongForm)?;
+        self.check_derivable(message)?;
+        self.check_ticket_alive(ticket.time)?;
+        if self.is_over(ta, self.header.authenticator_life) {
+            return Err(Refusal::AuthenticatorExpired);
+        }
+        let session_key = ticket.session_key;
+        let entry = Entry { responder: b, session_key, authenticator_time: ta };
+        if self.cache.contains(&entry) {
+            return Err(Refusal::Replayed);
+        }
+        if self.cache.len() >= MAX_ENTRIES {
+            return Err(Refusal::CacheFull);
+        }
+        let answer = self.encrypted_list(&[Shape::Time(ta)], Shape::SessionKey(session_key));
+        self.send(vec![answer])?;
+        self.cache.push(entry);
+        self.hold(run, Stage::Done, ticket, ta);
+        Ok(Answer::Run(run))
+    }
+
+    /// Step 6 takes {Ta}K with the run's own values; the run is done.
+    fn initiator_finishes(&mut self, run: usize, message: &Message) -> Result<Answer, Refusal> {
+        let held = self.check_run(run, Role::Initiator, Stage::AfterStep4)?.held;
+        let held = held.ok_or(Refusal::WrongStage)?;
+        if read_answer(message) != Some((held.session_key, held.authenticator_time)) {
+            return Err(Refusal::WrongForm);
+        }
+        self.check_derivable(message)?;
+        self.check_ticket_alive(held.ticket_time)?;
+        self.runs[run].stage = Stage::Done;
+        Ok(Answer::Run(run))
+    }
+
+    /// Step 7.
+    fn set_clock(&mut self, time: u32) -> Result<Answer, Refusal> {
+        if time < self.clock {
+            return Err(Refusal::ClockBack);
+        }
+        self.clock = time;
+        Ok(Answer::Done)
+    }
+
+    /// Step 8 forgets b's entries whose Ta + La is at or below the clock.
+    fn forget(&mut self, b: u8) -> Result<Answer, Refusal> {
+        let mut kept = Vec::new();
+        for entry in &self.cache {
+            let over = self.is_over(entry.authenticator_time, self.header.authenticator_life);
+            if entry.responder != b || !over {
+                kept.push(*entry);
+            }
+        }
+        self.cache = kept;
+        Ok(Answer::Done)
+    }
+
+    /// Step 9 puts a server run's key on the wire.
+    fn leak(&mut self, run: usize) -> Result<Answer, Refusal> {
+        let held = self.check_run(run, Role::Server, Stage::Done)?.held;
+        let held = held.ok_or(Refusal::WrongStage)?;
+        let key = self.terms.make(Shape::SessionKey(held.session_key));
+        self.send(vec![key])?;
+        Ok(Answer::Run(run))
+    }
+}
+
+/// What the steps have in common.
+impl Realm {
+    fn check_room_for_run(&self) -> Result<(), Refusal> {
+        if self.runs.len() >= MAX_RUNS {
+            return Err(Refusal::RunsFull);
+        }
+        Ok(())
+    }
+
+    fn check_run(&self, run: usize, role: Role, stage: Stage) -> Result<Run, Refusal> {
+        let found = self.runs[run];
+        if found.role != role || found.stage != stage {
+            return Err(Refusal::WrongStage);
+        }
+        Ok(found)
+    }
+
+    fn check_derivable(&self, message: &Message) -> Result<(), Refusal> {
+        if !self.derivable().contains(message) {
+            return Err(Refusal::NotDerivable);
+        }
+        Ok(())
+    }
+
+    fn check_ticket_alive(&self, ticket_time: u32) -> Result<(), Refusal> {
+        if self.is_over(ticket_time, self.header.ticket_life) {
+            return Err(Refusal::TicketExpired);
+        }
+        Ok(())
+    }
+
+    /// The clock is at or above start + life; the sum is exact.
+    fn is_over(&self, start: u32, life: u32) -> bool {
+        u64::from(self.clock) >= u64::from(start) + u64::from(life)
+    }
+
+    /// The number of the next run; below 64.
+    fn next_run(&self) -> u8 {
+        self.runs.len() as u8
+    }
+
+    fn open(&mut self, run: Run) -> Answer {
+        self.runs.push(run);
+        Answer::Run(self.runs.len() - 1)
+    }
+
+    fn hold(&mut self, run: usize, stage: Stage, ticket: Ticket, ta: u32) {
+        let Ticket { session_key, time } = ticket;
+        self.runs[run].stage = stage;
+        self.runs[run].held =
+            Some(Held { session_key, ticket_time: time, authenticator_time: Some(ta) });
+    }
+
+    fn encrypted_list(&mut self, body: &[Shape], key: Shape) -> Message {
+        let body = self.terms.list(body);
+        let key = self.terms.make(key);
+        self.terms.encrypt(body, key)
+    }
+
+    /// Adds what is missing of the messages, or refuses as a whole, and puts
+    /// the messages on the wire.
+    fn send(&mut self, messages: Vec<Message>) -> Result<(), Refusal> {
+        let missing = self.terms.missing(&messages);
+        if !self.terms.has_room_for(missing.len()) {
+            return Err(Refusal::TermsFull);
+        }
+        self.terms.add(missing);
+        self.wire.extend(messages);
+        Ok(())
+    }
+}
+
+/// [a, b, any nonce N], a and b unequal and not 0.
+fn read_request(message: &Message) -> Option<Request> {
+    let (a, rest) = message.pair()?;
+    let a = a.principal()?;
+    let (b, nonce) = rest.pair()?;
+    let b = b.principal()?;
+    let nonce = nonce.nonce()?;
+    (a != b && a != 0 && b != 0).then_some(Request { a, b, nonce })
+}
+
+/// {K, b, Ts, own nonce} under a's key.
+fn read_initiator_part(message: &Message, a: u8, b: u8, run: usize) -> Option<Ticket> {
+    let (body, key) = message.encrypted()?;
+    holds(key.long_term_key()? == a)?;
+    let (session_key, rest) = body.pair()?;
+    let session_key = session_key.session_key()?;
+    let (peer, rest) = rest.pair()?;
+    holds(peer.principal()? == b)?;
+    let (time, nonce) = rest.pair()?;
+    let time = time.time()?;
+    holds(usize::from(nonce.nonce()?) == run)?;
+    Some(Ticket { session_key, time })
+}
+
+/// The pair of {K, a, Ts} under b's key and {a, Ta}K, with the same K.
+fn read_delivery(message: &Message, a: u8, b: u8) -> Option<(Ticket, u32)> {
+    let (ticket, authenticator) = message.pair()?;
+    let ticket = read_ticket(ticket, a, b)?;
+    let (body, key) = authenticator.encrypted()?;
+    holds(key.session_key()? == ticket.session_key)?;
+    let (sender, ta) = body.pair()?;
+    holds(sender.principal()? == a)?;
+    Some((ticket, ta.time()?))
+}
+
+/// {K, a, Ts} under b's key.
+fn read_ticket(message: &Message, a: u8, b: u8) -> Option<Ticket> {
+    let (body, key) = message.encrypted()?;
+    holds(key.long_term_key()? == b)?;
+    let (session_key, rest) = body.pair()?;
+    let session_key = session_key.session_key()?;
+    let (peer, time) = rest.pair()?;
+    holds(peer.principal()? == a)?;
+    Some(Ticket { session_key, time: time.time()? })
+}
+
+/// {Ta}K, as K and Ta.
+fn read_answer(message: &Message) -> Option<(u8, Option<u32>)> {
+    let (body, key) = message.encrypted()?;
+    Some((key.session_key()?, Some(body.time()?)))
+}
+
+fn holds(condition: bool) -> Option<()> {
+    condition.then_some(())
+}

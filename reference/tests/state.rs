@@ -1,0 +1,217 @@
+//! Refusals 11 to 20: each alone, and which comes first of two.
+
+mod common;
+
+use common::{check, check_each, responders, times, EXCHANGE};
+
+/// The exchange after step 5; term 18 is the answer {Ta}K.
+fn accepted() -> String {
+    format!("{EXCHANGE}\nST 5 run=2 m=17 => ok 2")
+}
+
+#[test]
+fn steps_need_their_role_and_stage() {
+    // Runs: 0 initiator after 4, 1 server, 2 responder opened, 3 initiator opened.
+    let beginning = format!("{EXCHANGE}\nST 1 a=1 b=2 => ok 3");
+    check_each(
+        &beginning,
+        &[
+            "ST 4 run=0 m=11 => refused 11",
+            "ST 4 run=1 m=11 => refused 11",
+            "ST 4 run=2 m=11 => refused 11",
+            "ST 5 run=0 m=17 => refused 11",
+            "ST 5 run=1 m=17 => refused 11",
+            "ST 5 run=3 m=17 => refused 11",
+            "ST 6 run=1 m=17 => refused 11",
+            "ST 6 run=2 m=17 => refused 11",
+            "ST 6 run=3 m=17 => refused 11",
+            "ST 9 run=0 => refused 11",
+            "ST 9 run=2 => refused 11",
+            "ST 9 run=3 => refused 11",
+        ],
+    );
+}
+
+#[test]
+fn runs_that_are_done_take_no_more_steps() {
+    let beginning = format!("{}\nST 6 run=0 m=18 => ok 0", accepted());
+    check_each(
+        &beginning,
+        &[
+            "ST 4 run=0 m=11 => refused 11",
+            "ST 6 run=0 m=18 => refused 11",
+            "ST 5 run=2 m=17 => refused 11",
+            "ST 6 run=2 m=18 => refused 11",
+            "ST 9 run=0 => refused 11",
+            "ST 9 run=2 => refused 11",
+        ],
+    );
+}
+
+#[test]
+fn a_wrong_stage_comes_before_a_wrong_form() {
+    check_each(
+        EXCHANGE,
+        &[
+            "ST 4 run=0 m=0 => refused 11",
+            "ST 5 run=0 m=0 => refused 11",
+            "ST 6 run=2 m=0 => refused 11",
+        ],
+    );
+}
+
+#[test]
+fn the_65th_run_is_refused() {
+    let beginning = format!("HD n=3 Ls=9 La=9 => ok\nST 1 a=1 b=2 => ok 0\n{}", responders(1, 64));
+    check_each(
+        &beginning,
+        &[
+            "ST 1 a=1 b=2 => refused 13\nend runs 64 wire 1 cache 0 clock 0",
+            "ST 2 a=1 b=2 => refused 13\nend runs 64 wire 1 cache 0 clock 0",
+            "ST 3 m=4 => refused 13\nend runs 64 wire 1 cache 0 clock 0",
+            "ST 3 m=0 => refused 13",
+            "TM 2 L=9 => 5
+         TM 5 L=1 R=5 => 6
+         TM 5 L=0 R=6 => 7
+         ST 3 m=7 => refused 13",
+        ],
+    );
+}
+
+#[test]
+fn the_64th_run_is_opened_by_each_step() {
+    let beginning = format!("HD n=3 Ls=9 La=9 => ok\nST 1 a=1 b=2 => ok 0\n{}", responders(1, 63));
+    check_each(
+        &beginning,
+        &[
+            "ST 1 a=1 b=2 => ok 63\nend runs 64 wire 2 cache 0 clock 0",
+            "ST 2 a=1 b=2 => ok 63\nend runs 64 wire 1 cache 0 clock 0",
+            "ST 3 m=4 => ok 63\nend runs 64 wire 3 cache 0 clock 0",
+        ],
+    );
+}
+
+#[test]
+fn all_runs_taken_comes_before_a_full_table() {
+    let filled = format!("{}\nST 1 a=1 b=2 => refused 13", times(0, 512));
+    check(&format!("HD n=3 Ls=9 La=9 => ok\n{}{filled}", responders(0, 64)));
+}
+
+#[test]
+fn a_wrong_form_comes_before_what_cannot_be_derived() {
+    // Term 18, the key of 3, can neither be derived nor is it any step's form.
+    let beginning =
+        format!("{EXCHANGE}\nTM 3 L=3 => 18\nST 1 a=1 b=2 => ok 3\nST 10 m=18 => refused 15");
+    check_each(
+        &beginning,
+        &[
+            "ST 3 m=18 => refused 14",
+            "ST 4 run=3 m=18 => refused 14",
+            "ST 5 run=2 m=18 => refused 14",
+            "ST 6 run=0 m=18 => refused 14",
+        ],
+    );
+}
+
+#[test]
+fn what_cannot_be_derived_comes_before_the_lives() {
+    // {K, 2, 0, nonce 3} under the key of 1 was not sent; then all lives end.
+    check(&format!(
+        "{EXCHANGE}
+         ST 1 a=1 b=2 => ok 3    # terms 18 nonce, 19, 20
+         TM 5 L=6 R=18 => 21
+         TM 5 L=1 R=21 => 22
+         TM 5 L=5 R=22 => 23
+         TM 6 L=23 R=10 => 24
+         ST 4 run=3 m=24 => refused 15
+         TM 6 L=6 R=5 => 25      # the answer, not sent yet
+         ST 6 run=0 m=25 => refused 15
+         ST 7 t=1000 => ok -
+         ST 4 run=3 m=24 => refused 15
+         ST 6 run=0 m=25 => refused 15
+         ST 9 run=1 => ok 1
+         ST 6 run=0 m=25 => refused 16"
+    ));
+}
+
+#[test]
+fn the_ticket_comes_before_the_authenticator() {
+    check_each(
+        EXCHANGE,
+        &[
+            "ST 7 t=100 => ok -
+         ST 5 run=2 m=17 => refused 16",
+            "ST 7 t=99 => ok -
+         ST 5 run=2 m=17 => refused 17",
+        ],
+    );
+}
+
+#[test]
+fn the_authenticators_life_comes_before_the_cache() {
+    let beginning = format!("{}\nST 2 a=1 b=2 => ok 3", accepted());
+    check_each(
+        &beginning,
+        &[
+            "ST 7 t=9 => ok -
+         ST 5 run=3 m=17 => refused 18",
+            "ST 7 t=10 => ok -
+         ST 5 run=3 m=17 => refused 17",
+        ],
+    );
+}
+
+#[test]
+fn sums_of_times_do_not_wrap() {
+    // The clock is 4,294,967,290 and both lives are 10: nothing ever ends.
+    let clock = 4294967290u32;
+    let beginning = EXCHANGE.replace(
+        "HD n=5 Ls=100 La=10 => ok",
+        &format!("HD n=5 Ls=10 La=10 => ok\nST 7 t={clock} => ok -"),
+    );
+    check_each(
+        &beginning,
+        &[
+            "ST 5 run=2 m=17 => ok 2",
+            "ST 7 t=4294967295 => ok -
+         ST 5 run=2 m=17 => ok 2
+         ST 6 run=0 m=18 => ok 0
+         ST 8 b=2 => ok -
+         end runs 3 wire 5 cache 1 clock 4294967295",
+            "ST 1 a=1 b=2 => ok 3        # 18, 19, 20
+         ST 3 m=20 => ok 4
+         ST 7 t=4294967295 => ok -
+         ST 4 run=3 m=25 => ok 3",
+        ],
+    );
+}
+
+#[test]
+fn the_longest_lives() {
+    let header = "HD n=5 Ls=4294967295 La=4294967295 => ok";
+    let beginning = EXCHANGE.replace("HD n=5 Ls=100 La=10 => ok", header);
+    check_each(
+        &beginning,
+        &[
+            "ST 7 t=4294967294 => ok -\nST 5 run=2 m=17 => ok 2",
+            "ST 7 t=4294967295 => ok -\nST 5 run=2 m=17 => refused 16",
+        ],
+    );
+}
+
+#[test]
+fn a_time_far_ahead_is_accepted_and_kept() {
+    // The server's key leaks; the intruder dates an authenticator far ahead.
+    check(&format!(
+        "{EXCHANGE}
+         ST 9 run=1 => ok 1
+         TM 1 L=65535 R=65535 => 18
+         TM 5 L=0 R=18 => 19
+         TM 6 L=19 R=5 => 20
+         TM 5 L=15 R=20 => 21
+         ST 5 run=2 m=21 => ok 2
+         ST 7 t=4294967295 => ok -
+         ST 8 b=2 => ok -
+         end runs 3 wire 6 cache 1 clock 4294967295"
+    ));
+}
