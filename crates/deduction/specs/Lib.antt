@@ -1,4 +1,6 @@
+pub mod Promises
 pub mod Derives
+pub mod Secrecy
 pub mod Public
 pub mod Synth
 pub mod Known

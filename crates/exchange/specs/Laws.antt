@@ -1,5 +1,4 @@
--- The proofs. Secrecy to Acceptance prove demand 3 over logs, Histories carries it over to lists of calls.
-pub mod Secrecy
+-- The proofs. Log to Acceptance prove demand 3 over logs, Histories carries it over to lists of calls.
 pub mod Log
 pub mod Trace
 pub mod Rows

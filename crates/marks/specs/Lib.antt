@@ -1,3 +1,4 @@
+pub mod Promises
 pub mod Bits
 pub mod Marks
 pub mod Size

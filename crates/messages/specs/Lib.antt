@@ -1,3 +1,4 @@
+pub mod Promises
 pub mod Entered
 pub mod Standing
 pub mod Draft
@@ -5,4 +6,3 @@ pub mod Writes
 pub mod Plan
 pub mod Planning
 pub mod Lent
-pub mod Promises

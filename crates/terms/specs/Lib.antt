@@ -1,3 +1,4 @@
+pub mod Promises
 pub mod Choice
 pub mod Message
 pub mod Descend

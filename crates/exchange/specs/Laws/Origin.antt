@@ -14,7 +14,7 @@ use Rattle.exchange.specs.Lists.{_∈_, here, there}
 use Rattle.exchange.specs.Messages.{request, reply, ticket, authenticator, confirmation}
 use Rattle.exchange.specs.Log.{Event, initiate, issue, authenticate, accept, leak, Log, sends, OnWire, sent}
 use Rattle.exchange.specs.Rules.{Derivable}
-use Rattle.exchange.specs.Laws.Secrecy.{Guarded, guarded}
+use Rattle.deduction.specs.Secrecy.{Guarded, guarded}
 
 -- ---- who sent it
 

@@ -9,7 +9,7 @@ use Rattle.exchange.specs.Lists.{_∈_}
 use Rattle.exchange.specs.Messages.{reply, ticket, authenticator}
 use Rattle.exchange.specs.Log.{issue, authenticate, accept, Log}
 use Rattle.exchange.specs.Rules.{takes3, takes4, takes5, Derivable, Apart}
-use Rattle.exchange.specs.Laws.Secrecy.{was-issued, is-secret}
+use Rattle.deduction.specs.Secrecy.{was-issued, is-secret}
 use Rattle.exchange.specs.Laws.Trace.{Adds, taken, Trace, derivable-later, past}
 use Rattle.exchange.specs.Laws.Origin.{Safe, fine, sent-reply, sent-ticket, sent-authenticator}
 

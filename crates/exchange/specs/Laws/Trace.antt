@@ -9,7 +9,7 @@ use Rattle.exchange.specs.Lists.{_∈_, here, there, _⊑_, now, before}
 use Rattle.exchange.specs.Log.{Event, nothing, Log}
 use Rattle.exchange.specs.Rules.{Takes, Derivable}
 use Rattle.exchange.specs.Laws.Log.{wire-later}
-use Rattle.exchange.specs.Laws.Secrecy.{derives-more}
+use Rattle.deduction.specs.Secrecy.{derives-more}
 
 pub data Adds (R : Realm) (l : Log) : Event → Type 0 where
   refused : Adds R l nothing
