@@ -1,7 +1,7 @@
 -- The answer of `add_message`, and the table after it. A message is added entire or not at all: how many terms are new is
 -- read off `entered`, which knows no limit, and 20 is given exactly where they do not all fit in 512.
 -- Assumes nothing.
-use mathlib.Core.Path.{_≡_, sym, ap, _∙_}
+use mathlib.Core.Path.{_≡_, sym, ap, ap₂, _∙_}
 use mathlib.Core.Bool.{true, false}
 use mathlib.Core.List.{List, _++_, append-nil}
 use Prim.Native.Nat.{ℕ, _+_, _<_, _≤_}
@@ -17,6 +17,7 @@ use Rattle.terms.specs.Choice.{pick, both}
 use Rattle.terms.specs.Meaning.{messageAt}
 use Rattle.terms.specs.Message.{Message}
 use Rattle.terms.specs.Number.{numberIn, termsOf, terms-list}
+use Rattle.terms.specs.Outcome.{Outcome, accept, refuse}
 use Rattle.terms.specs.Valid.{holds, holds-valid}
 use Rattle.messages.specs.Draft.{draftMessage, draftFits}
 use Rattle.messages.specs.Entered.{entered}
@@ -24,24 +25,26 @@ use Rattle.messages.specs.Plan.{known, drafted, Fresh, Ready, NodePlanne
 
 -- ---- definitions
 
+-- what the code's answer comes to
+abbrev pub outcome : Stored → (count : ℕ) → List ℕ → Outcome
+outcome (At i count′) count ts = accept i count′ ts
+outcome (Refused r) count ts = refuse r count ts
+
 -- a list of terms, with the places of ts past it
 abbrev pub over : List ℕ → List ℕ → List ℕ
 over xs ts = xs ++ drop (length xs) ts
 
--- the number of m among the terms xs, and how many they are; 20 if "the new terms do not all fit"
-abbrev pub storedIn : List ℕ → Message → Stored
-storedIn xs m = pick (leb (length xs) 512) (At (numberIn xs m) (length xs)) (Refused 20)
+-- the terms xs, m among them, laid over the table; 20 if "the new terms do not all fit"
+abbrev pub laid : (xs : List ℕ) (m : Message) (count : ℕ) (ts : List ℕ) → Outcome
+laid xs m count ts = pick (leb (length xs) 512) (accept (numberIn xs m) (length xs) (over xs ts)) (refuse 20 count ts)
 
 -- 10 for tables that do not hold together, 6 for a draft with a field out of range or a part that is not present, then 20
-unfoldable pub addMessageOf : (n : ℕ) (ts : List ℕ) (count : ℕ) (draft : List Node) (root : ℕ) → Stored
+unfoldable pub addMessageOf : (n : ℕ) (ts : List ℕ) (count : ℕ) (draft : List Node) (root : ℕ) → Outcome
 addMessageOf n ts count draft root =
     let m = draftMessage (messageAt ts) draft root in
-    pick (holds n ts count) (pick (both (ltb root 16) (draftFits n count draft)) (storedIn (entered (termsOf ts count) m) m) (Refused 6)) (Refused 10)
-
--- the table after the answer
-abbrev pub tableWith : (ts : List ℕ) (count : ℕ) (draft : List Node) (root : ℕ) → Stored → List ℕ
-tableWith ts count draft root (At i m) = over (entered (termsOf ts count) (draftMessage (messageAt ts) draft root)) ts
-tableWith ts count draft root (Refused r) = ts
+    pick (holds n ts count)
+    (pick (both (ltb root 16) (draftFits n count draft)) (laid (entered (termsOf ts count) m) m count ts) (refuse 6 count ts))
+    (refuse 10 count ts)
 
 -- ---- the start of a plan
 
@@ -67,16 +70,16 @@ start-ready {n} {ts} {count} {draft} {p} small h fits f size =
 -- ---- by the way out
 
 module _ (n : ℕ) (ts : List ℕ) (count : ℕ) (draft : List Node) (root : ℕ) where
-  pub bad-tables : holds n ts count ≡ false → Refused 10 ≡ addMessageOf n ts count draft root
+  pub bad-tables : holds n ts count ≡ false → refuse 10 count ts ≡ addMessageOf n ts count draft root
   unfolding addMessageOf
   bad-tables e = rw e
 
   module _ (held : holds n ts count ≡ true) where
-    pub bad-root : 16 ≤ root → Refused 6 ≡ addMessageOf n ts count draft root
+    pub bad-root : 16 ≤ root → refuse 6 count ts ≡ addMessageOf n ts count draft root
     unfolding addMessageOf
     bad-root h = rw (held, le-ltb root 16 h)
 
-    pub bad-draft : root < 16 → draftFits n count draft ≡ false → Refused 6 ≡ addMessageOf n ts count draft root
+    pub bad-draft : root < 16 → draftFits n count draft ≡ false → refuse 6 count ts ≡ addMessageOf n ts count draft root
     unfolding addMessageOf
     bad-draft h e = rw (held, lt-ltb root 16 h, e)
 
@@ -90,15 +93,13 @@ module _ (n : ℕ) (ts : List ℕ) (count : ℕ) (draft : List Node) (root : ℕ
           let v = holds-valid n ts count held in
           ap length (sym all) ∙ known-length ts count q 0 (omega (arith, v .size, v .room)) in-plan
 
-      pub too-many : 512 < count + q .count → Refused 20 ≡ addMessageOf n ts count draft root
+      pub too-many : 512 < count + q .count → refuse 20 count ts ≡ addMessageOf n ts count draft root
       unfolding addMessageOf
       too-many lt = rw (held, lt-ltb root 16 h, fits, length-all, lt-leb (count + q .count) 512 lt)
 
-      pub all-fit : count + q .count ≤ 512 → At number (count + q .count) ≡ addMessageOf n ts count draft root
+      pub all-fit : count + q .count ≤ 512 → accept number (count + q .count) (written ts count q) ≡ addMessageOf n ts count draft root
       unfolding addMessageOf
       all-fit le =
           rw (held, lt-ltb root 16 h, fits, length-all, le-leb (count + q .count) 512 le)
-          (ap (λ (i : ℕ). At i (count + q .count)) (planned .number-is ∙ ap (λ (xs : List ℕ). numberIn xs (drafted ts draft root)) all))
-
-      pub table-with : written ts count q ≡ over (entered (termsOf ts count) (drafted ts draft root)) ts
-      table-with = ap (λ (k : ℕ). known ts count q ++ drop k ts) (sym length-all) ∙ ap (λ (xs : List ℕ). xs ++ drop (length (entered (termsOf ts count) (drafted ts draft root))) ts) all
+          (ap₂ (λ (i : ℕ) (xs : List ℕ). accept i (count + q .count) (xs ++ drop (count + q .count) ts))
+          (planned .number-is ∙ ap (λ (xs : List ℕ). numberIn xs (drafted ts draft root)) all) all)

@@ -4,5 +4,6 @@ pub mod Standing
 pub mod Draft
 pub mod Writes
 pub mod Plan
+pub mod Layers
 pub mod Planning
 pub mod Lent

@@ -1,28 +1,27 @@
 -- What the crate promises beside the contracts of its functions: what holds of the table after a message was added. The
 -- contract of `add_message` gives the answer and every place of the table; these laws say what they mean.
 -- Assumes nothing.
-use mathlib.Core.Path.{_≡_, refl, sym, ap, _∙_, subst}
+use mathlib.Core.Path.{_≡_, refl, sym, ap, _∙_}
 use mathlib.Core.Bool.{Bool, true, false}
-use mathlib.Core.List.{List, _++_}
-use Prim.Native.Nat.{ℕ, _+_, _-_, _<_, _≤_}
+use mathlib.Core.List.{List}
+use Prim.Native.Nat.{ℕ, _<_, _≤_}
 use native.Mathlib.Omega.{arith}
 use borrow.Author.Tests.{leb-true, ltb-true}
 use lib.Dec.{ltb, leb}
-use lib.ListN.{length, getD, drop, length-append, length-drop, List·getD-append}
+use lib.ListN.{length, drop, length-append, length-drop, List·getD-append}
 use lib.Seq.{drop-append-seam}
 use Rattle.messages.specs.declared.draft.Node.{Node}
-use Rattle.messages.specs.declared.lent.Stored.{Stored}
-use Rattle.messages.specs.declared.lent.Stored.the-variants.{At, Refused}
 use Rattle.terms.specs.Choice.{pick, both, both-true}
 use Rattle.terms.specs.Meaning.{messageAt, messages-same}
 use Rattle.terms.specs.Message.{Message}
 use Rattle.terms.specs.Number.{numberIn, termsOf, terms-length, terms-agree, terms-list}
+use Rattle.terms.specs.Outcome.{Outcome, accept, refuse}
 use Rattle.terms.specs.Rules.{Agree}
 use Rattle.terms.specs.Valid.{Terms, Valid, holds, holds-valid, terms-same}
 use Rattle.messages.specs.Draft.{draftMessage, draftFits}
 use Rattle.messages.specs.Entered.{entered}
-use Rattle.messages.specs.Lent.{over, addMessageOf, tableWith}
-use Rattle.messages.specs.Standing.{EnteredIs, Standing, entered-is, standing-number}
+use Rattle.messages.specs.Lent.{over, addMessageOf}
+use Rattle.messages.specs.Standing.{entered-is, standing-number}
 use Rattle.messages.specs.Writes.{draft-writes}
 
 -- a message m was added to a table ts of `count` terms; its number is i, and ts′ has `count′` terms
@@ -41,20 +40,37 @@ pub record MessageAdded (n : ℕ) (ts : List ℕ) (count : ℕ) (m : Message) (i
   -- places past the terms keep their values
   pub past : drop count′ ts′ ≡ drop count′ ts
 
--- ---- what an accepted answer says
+-- ---- what an accepted outcome says
 
-record Accepted (a b c : Bool) (x y i m : ℕ) : Type 0 where
+record Accepted (a b c : Bool) (x y i m : ℕ) (us vs : List ℕ) : Type 0 where
   first : a ≡ true
   second : b ≡ true
   third : c ≡ true
-  number : i ≡ x
-  count : m ≡ y
+  number-is : i ≡ x
+  count-is : m ≡ y
+  table-is : vs ≡ us
 
-accepted : (a b c : Bool) (x y i m : ℕ) → pick a (pick b (pick c (At x y) (Refused 20)) (Refused 6)) (Refused 10) ≡ At i m → Accepted a b c x y i m
-accepted true true true x y i m e = record { first = refl; second = refl; third = refl; number = (cc); count = (cc) }
-accepted true true false x y i m e = let z : _≡_ {A = ℕ} 0 1 = cc in absurd (omega arith)
-accepted true false c x y i m e = let z : _≡_ {A = ℕ} 0 1 = cc in absurd (omega arith)
-accepted false b c x y i m e = let z : _≡_ {A = ℕ} 0 1 = cc in absurd (omega arith)
+never : {A : Type 0} (r k i m : ℕ) (ts vs : List ℕ) → refuse r k ts ≡ accept i m vs → A
+never r k i m ts vs e =
+    let q = ap (λ (o : Outcome). o .answer) e in
+    let z : _≡_ {A = ℕ} 0 1 = cc in
+    absurd (omega arith)
+
+accepted : (a b c : Bool) (x y k i m : ℕ) (us ts vs : List ℕ)
+    → pick a (pick b (pick c (accept x y us) (refuse 20 k ts)) (refuse 6 k ts)) (refuse 10 k ts) ≡ accept i m vs → Accepted a b c x y i m us vs
+accepted true true true x y k i m us ts vs e =
+    let q = ap (λ (o : Outcome). o .answer) e in
+    record {
+      first = refl;
+      second = refl;
+      third = refl;
+      number-is = (cc);
+      count-is = sym (ap (λ (o : Outcome). o .count) e);
+      table-is = sym (ap (λ (o : Outcome). o .table) e);
+    }
+accepted true true false x y k i m us ts vs e = never 20 k i m ts vs e
+accepted true false c x y k i m us ts vs e = never 6 k i m ts vs e
+accepted false b c x y k i m us ts vs e = never 10 k i m ts vs e
 
 -- ---- the terms laid over the table
 
@@ -72,30 +88,32 @@ module _ {n : ℕ} (ts : List ℕ) {xs : List ℕ} (v : Terms n xs (length xs)) 
 
 -- ---- the theorem
 
-pub message-added : (n : ℕ) → n ≤ 65536 → (ts : List ℕ) (count : ℕ) (draft : List Node) (root : ℕ) {i m : ℕ} → addMessageOf n ts count draft root ≡ At i m
-    → MessageAdded n ts count (draftMessage (messageAt ts) draft root) i m (tableWith ts count draft root (At i m))
+pub message-added : (n : ℕ) → n ≤ 65536 → (ts : List ℕ) (count : ℕ) (draft : List Node) (root : ℕ) {i m : ℕ} {ts′ : List ℕ}
+    → addMessageOf n ts count draft root ≡ accept i m ts′ → MessageAdded n ts count (draftMessage (messageAt ts) draft root) i m ts′
 unfolding addMessageOf
-message-added n small ts count draft root {i} {m} e =
+message-added n small ts count draft root {i} {m} {ts′} e =
     let message = draftMessage (messageAt ts) draft root in
     let old = termsOf ts count in
     let xs = entered old message in
-    let a = accepted (holds n ts count) (both (ltb root 16) (draftFits n count draft)) (leb (length xs) 512) (numberIn xs message) (length xs) i m e in
+    let a =
+    accepted (holds n ts count) (both (ltb root 16) (draftFits n count draft)) (leb (length xs) 512) (numberIn xs message) (length xs) count i m
+    (over xs ts) ts ts′ e in
     let v = holds-valid n ts count (a .first) in
     let b = both-true (ltb root 16) (draftFits n count draft) (a .second) in
     let room : length xs ≤ 512 = leb-true (length xs) 512 (a .third) in
     let E = entered-is small message (draft-writes v draft (b .1) root (ltb-true root 16 (b .0))) old (terms-list v) (omega arith) in
-    let here : numberIn xs message ≡ E .number = standing-number (E .extends .terms) (E .stands) in
-    let at : i ≡ E .number = a .number ∙ here in
+    let at : i ≡ E .number = a .number-is ∙ standing-number (E .extends .terms) (E .stands) in
     let agree = over-agree ts (E .extends .terms) (v .size) room in
     let same : Agree ts (over xs ts) count = λ k h.
     terms-agree v k h ∙ E .extends .agree k (omega (arith, terms-length v)) ∙ agree k (omega (arith, terms-length v, E .extends .more)) in
-    record {
-      valid = rw (a .count) (over-valid ts (E .extends .terms) (v .size) room);
-      below = omega (arith, at, a .count, E .stands .below);
+    rw (a .table-is, a .count-is)
+    (record {
+      valid = over-valid ts (E .extends .terms) (v .size) room;
+      below = omega (arith, at, E .stands .below);
       means = rw at (sym (messages-same (E .extends .terms) (over xs ts) agree (E .number) (E .stands .below)) ∙ E .stands .means);
-      more = omega (arith, a .count, E .extends .more, terms-length v);
+      more = omega (arith, E .extends .more, terms-length v);
       older = same;
       meaning = messages-same (v .terms) (over xs ts) same;
-      added = a .count;
-      past = rw (a .count) (drop-append-seam xs (drop (length xs) ts));
-    }
+      added = refl;
+      past = drop-append-seam xs (drop (length xs) ts);
+    })

@@ -15,42 +15,28 @@ use Rattle.terms.specs.declared.table.Added.the-variants.{Old, New, Refu
 use Rattle.terms.specs.declared.table.Found.{Found}
 use Rattle.terms.specs.declared.table.Found.the-variants.{At, Nothing}
 use Rattle.terms.specs.Choice.{pick}
+use Rattle.terms.specs.Outcome.{Answer, number, refused, Outcome, accept, refuse}
 use Rattle.terms.specs.Rules.{refusalOf, refusal-same, Agree}
 use Rattle.terms.specs.Table.{findOf, found-at}
 use Rattle.terms.specs.Valid.{Terms, Valid, terms-same, terms-more}
 
 -- ---- definitions
 
--- by what the search found in a table of `count` terms
-abbrev pub addedBy : ℕ → Found → Added
-addedBy count (At i) = Old i
-addedBy count Nothing = pick (eqb count 512) (Refused 20) (New count)
+-- what the code's answer comes to: the term was there, is new, or was refused
+abbrev pub outcome : Added → (count : ℕ) → List ℕ → Outcome
+outcome (Old i) count ts = accept i count ts
+outcome (New i) count ts = accept i (suc count) ts
+outcome (Refused r) count ts = refuse r count ts
+
+-- by what the search found: "adding one that is present gives its number and changes nothing"; a new one goes behind the others
+abbrev pub addBy : (ts : List ℕ) (count w : ℕ) → Found → Outcome
+addBy ts count w (At i) = accept i count ts
+addBy ts count w Nothing = pick (eqb count 512) (refuse 20 count ts) (accept count (suc count) (set ts count w))
 
 -- the refusals of the term rules come before 20
-unfoldable pub addedOf : (n : ℕ) (ts : List ℕ) (count w : ℕ) → Added
-addedOf n ts count w = pick (eqb (refusalOf n ts count w) 0) (addedBy count (findOf ts count w)) (Refused (refusalOf n ts count w))
-
--- the words after an answer
-abbrev pub tableAfter : List ℕ → ℕ → Added → List ℕ
-tableAfter ts w (Old i) = ts
-tableAfter ts w (New i) = set ts i w
-tableAfter ts w (Refused r) = ts
-
--- and how many of them are terms
-abbrev pub countAfter : ℕ → Added → ℕ
-countAfter count (Old i) = count
-countAfter count (New i) = suc count
-countAfter count (Refused r) = count
-
--- what the paper calls the answer: a term's number, or a refusal's
-pub data Plain : Type 0 where
-  number : ℕ → Plain
-  refused : ℕ → Plain
-
-abbrev pub plain : Added → Plain
-plain (Old i) = number i
-plain (New i) = number i
-plain (Refused r) = refused r
+unfoldable pub addOf : (n : ℕ) (ts : List ℕ) (count w : ℕ) → Outcome
+addOf n ts count w =
+    pick (eqb (refusalOf n ts count w) 0) (addBy ts count w (findOf ts count w)) (refuse (refusalOf n ts count w) count ts)
 
 -- ---- a longer table: the terms before stay, and the rules are kept
 
@@ -83,61 +69,61 @@ extends-by {n} {ts} {count} v ts′ w g e r f =
       agree = g;
     }
 
--- ---- what holds after an answer
+-- ---- what holds after it
 
-abbrev pub AddedIs : (n : ℕ) (ts : List ℕ) (count w : ℕ) → Added → Type 0
-AddedIs n ts count w (Old i) = (i < count) × (getD ts i 0 ≡ w)
-AddedIs n ts count w (New i) = (i ≡ count) × (getD (set ts i w) i 0 ≡ w) × Extends n ts count (set ts i w) (suc count) × (count < 512)
-AddedIs n ts count w (Refused r) = Unit {0}
+abbrev pub AddedIs : (n : ℕ) (ts : List ℕ) (count w : ℕ) → Answer → ℕ → List ℕ → Type 0
+AddedIs n ts count w (number i) count′ ts′ = (i < count′) × (getD ts′ i 0 ≡ w) × Extends n ts count ts′ count′
+AddedIs n ts count w (refused r) count′ ts′ = (count′ ≡ count) × (ts′ ≡ ts)
+
+-- the answer is the term's number, and the table still holds together
+pub record Adds (n : ℕ) (ts : List ℕ) (count w : ℕ) (o : Outcome) : Type 0 where
+  pub is : AddedIs n ts count w (o .answer) (o .count) (o .table)
+  pub valid : Valid n (o .table) (o .count)
 
 module _ {n : ℕ} {ts : List ℕ} {count : ℕ} (v : Valid n ts count) (w : ℕ) where
-  by-found : refusalOf n ts count w ≡ 0 → (f : Found) → findOf ts count w ≡ f → AddedIs n ts count w (addedBy count f)
-  by-found r (At i) e = found-at ts count w e
+  kept : (r : ℕ) → Adds n ts count w (refuse r count ts)
+  kept r = record { is = (refl, refl); valid = v }
+
+  by-found : refusalOf n ts count w ≡ 0 → (f : Found) → findOf ts count w ≡ f → Adds n ts count w (addBy ts count w f)
+  by-found r (At i) e =
+      let p = found-at ts count w e in
+      record { is = (p .0, p .1, extends-refl (v .terms)); valid = v }
   by-found r Nothing e = by-room (eqb count 512) refl
     where
-      by-room : (b : Bool) → eqb count 512 ≡ b → AddedIs n ts count w (pick b (Refused 20) (New count))
-      by-room true q = tt
+      by-room : (b : Bool) → eqb count 512 ≡ b → Adds n ts count w (pick b (refuse 20 count ts) (accept count (suc count) (set ts count w)))
+      by-room true q = kept 20
       by-room false q =
           let room : count < 512 = omega (arith, v .room, eqb-false count 512 q) in
-          let here : getD (set ts count w) count 0 ≡ w = getD-set-same ts count w 0 (omega (arith, v .size)) in (
-            refl,
-            here,
-            extends-by (v .terms) (set ts count w) w (λ k h. sym (getD-set-other ts count k w 0 (λ z. omega arith))) here r e,
-            room,
-          )
+          let here : getD (set ts count w) count 0 ≡ w = getD-set-same ts count w 0 (omega (arith, v .size)) in
+          let x = extends-by (v .terms) (set ts count w) w (λ k h. sym (getD-set-other ts count k w 0 (λ z. omega arith))) here r e in
+          record { is = (omega arith, here, x); valid = record { size = length-set ts count w ∙ v .size; room = room; terms = x .terms } }
 
-  pub added-is : AddedIs n ts count w (addedOf n ts count w)
-  unfolding addedOf
-  added-is = by-rule (eqb (refusalOf n ts count w) 0) refl
+  pub adds : Adds n ts count w (addOf n ts count w)
+  unfolding addOf
+  adds = by-rule (eqb (refusalOf n ts count w) 0) refl
     where
       by-rule : (b : Bool) → eqb (refusalOf n ts count w) 0 ≡ b
-          → AddedIs n ts count w (pick b (addedBy count (findOf ts count w)) (Refused (refusalOf n ts count w)))
+          → Adds n ts count w (pick b (addBy ts count w (findOf ts count w)) (refuse (refusalOf n ts count w) count ts))
       by-rule true q = by-found (eqb-true (refusalOf n ts count w) 0 q) (findOf ts count w) refl
-      by-rule false q = tt
+      by-rule false q = kept (refusalOf n ts count w)
 
-  -- the table after adding holds together
-  pub added-valid : {a : Added} → addedOf n ts count w ≡ a → Valid n (tableAfter ts w a) (countAfter count a)
-  added-valid {a} e = go a (rw e at added-is)
-    where
-      go : (a : Added) → AddedIs n ts count w a → Valid n (tableAfter ts w a) (countAfter count a)
-      go (Old i) h = v
-      go (New i) h = record { size = length-set ts i w ∙ v .size; room = h .3; terms = h .2 .terms }
-      go (Refused r) h = v
-
--- ---- by what the rules and the search say
+-- ---- by the way out
 
 module _ (n : ℕ) (ts : List ℕ) (count w : ℕ) where
-  pub add-refused : (r : ℕ) → r ≡ refusalOf n ts count w → (r ≡ 0 → ⊥) → Refused r ≡ addedOf n ts count w
-  unfolding addedOf
-  add-refused r e ne = simp (ne-eqb (refusalOf n ts count w) 0 (λ z. ne (e ∙ z))) (ap Refused e)
+  pub add-refused : (r : ℕ) → r ≡ refusalOf n ts count w → (r ≡ 0 → ⊥) → outcome (Refused r) count ts ≡ addOf n ts count w
+  unfolding addOf
+  add-refused r e ne = simp (ne-eqb (refusalOf n ts count w) 0 (λ z. ne (e ∙ z))) (ap (λ (x : ℕ). refuse x count ts) e)
 
-  pub add-by : refusalOf n ts count w ≡ 0 → {f : Found} → findOf ts count w ≡ f → addedBy count f ≡ addedOf n ts count w
-  unfolding addedOf
-  add-by r e = rw (eq-eqb (refusalOf n ts count w) 0 r) (ap (addedBy count) (sym e))
+  module _ (passed : refusalOf n ts count w ≡ 0) where
+    by : {f : Found} → findOf ts count w ≡ f → addBy ts count w f ≡ addOf n ts count w
+    unfolding addOf
+    by e = rw (eq-eqb (refusalOf n ts count w) 0 passed) (ap (addBy ts count w) (sym e))
 
--- the two ways out of a search that found nothing
-pub full-table : (count : ℕ) → count ≡ 512 → Refused 20 ≡ addedBy count Nothing
-full-table count e = rw (eq-eqb count 512 e)
+    pub add-old : {i : ℕ} → findOf ts count w ≡ At i → outcome (Old i) count ts ≡ addOf n ts count w
+    add-old e = by e
 
-pub room-left : (count : ℕ) → (count ≡ 512 → ⊥) → New count ≡ addedBy count Nothing
-room-left count ne = rw (ne-eqb count 512 ne)
+    pub add-full : findOf ts count w ≡ Nothing → count ≡ 512 → outcome (Refused 20) count ts ≡ addOf n ts count w
+    add-full e h = rw (eq-eqb count 512 h) at (by e)
+
+    pub add-new : findOf ts count w ≡ Nothing → (count ≡ 512 → ⊥) → outcome (New count) count (set ts count w) ≡ addOf n ts count w
+    add-new e h = rw (ne-eqb count 512 h) at (by e)

@@ -6,12 +6,11 @@ use mathlib.Core.List.{List}
 use Prim.Native.Nat.{ℕ}
 use Rattle.terms.specs.declared.lent.Lookup.{Lookup}
 use Rattle.terms.specs.declared.lent.Lookup.the-variants as lookup
-use Rattle.terms.specs.declared.table.Added.{Added}
-use Rattle.terms.specs.declared.table.Added.the-variants.{Refused}
 use Rattle.terms.specs.declared.table.Found.{Found}
 use Rattle.terms.specs.declared.table.Found.the-variants.{At, Nothing}
-use Rattle.terms.specs.Add.{addedOf}
+use Rattle.terms.specs.Add.{addOf}
 use Rattle.terms.specs.Choice.{pick}
+use Rattle.terms.specs.Outcome.{Outcome, refuse}
 use Rattle.terms.specs.Table.{findOf}
 use Rattle.terms.specs.Valid.{holds}
 
@@ -23,9 +22,9 @@ lookupBy Nothing = lookup.Nothing
 unfoldable pub lookupOf : (n : ℕ) (ts : List ℕ) (count w : ℕ) → Lookup
 lookupOf n ts count w = pick (holds n ts count) (lookupBy (findOf ts count w)) (lookup.Refused 10)
 
--- the answer to adding the term w
-unfoldable pub addTermOf : (n : ℕ) (ts : List ℕ) (count w : ℕ) → Added
-addTermOf n ts count w = pick (holds n ts count) (addedOf n ts count w) (Refused 10)
+-- adding the term w
+unfoldable pub addTermOf : (n : ℕ) (ts : List ℕ) (count w : ℕ) → Outcome
+addTermOf n ts count w = pick (holds n ts count) (addOf n ts count w) (refuse 10 count ts)
 
 -- ---- by what the check says
 
@@ -38,10 +37,10 @@ module _ (n : ℕ) (ts : List ℕ) (count w : ℕ) where
   unfolding lookupOf
   lookup-by e f = rw e (ap lookupBy (sym f))
 
-  pub add-term-bad : holds n ts count ≡ false → Refused 10 ≡ addTermOf n ts count w
+  pub add-term-bad : holds n ts count ≡ false → refuse 10 count ts ≡ addTermOf n ts count w
   unfolding addTermOf
   add-term-bad e = rw e
 
-  pub add-term-by : holds n ts count ≡ true → {a : Added} → a ≡ addedOf n ts count w → a ≡ addTermOf n ts count w
+  pub add-term-by : holds n ts count ≡ true → {o : Outcome} → o ≡ addOf n ts count w → o ≡ addTermOf n ts count w
   unfolding addTermOf
   add-term-by e p = rw e p

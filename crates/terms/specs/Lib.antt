@@ -7,6 +7,7 @@ pub mod Rules
 pub mod Table
 pub mod Valid
 pub mod Meaning
+pub mod Outcome
 pub mod Add
 pub mod Lent
 pub mod Number

@@ -1,13 +1,12 @@
 -- What the crate promises beside the contracts of its functions, each proved in the files below. Reading order of the
--- definitions: Message, Word, Rules, Table, Valid, Add, Lent; then Meaning and Number, by which a number of the table and a
+-- definitions: Message, Word, Rules, Table, Valid, Outcome, Add, Lent; then Meaning and Number, by which a number of the table and a
 -- message stand for each other.
 -- Assumes nothing.
 use mathlib.Core.Path.{_≡_}
 use mathlib.Core.Bool.{true}
 use mathlib.Core.List.{List}
 use Prim.Native.Nat.{ℕ, _<_}
-use Rattle.terms.specs.declared.table.Added.{Added}
-use Rattle.terms.specs.Add.{addedOf, tableAfter, countAfter, AddedIs, added-is, added-valid}
+use Rattle.terms.specs.Add.{addOf, Adds, adds}
 use Rattle.terms.specs.Meaning.{messageOf, messageAt, message-at, messages-same}
 use Rattle.terms.specs.Number.{messages-once}
 use Rattle.terms.specs.Rules.{termAt, Agree}
@@ -20,13 +19,9 @@ check-sound n ts count e = holds-valid n ts count e
 pub check-complete : {n : ℕ} {ts : List ℕ} {count : ℕ} → Valid n ts count → holds n ts count ≡ true
 check-complete v = valid-holds v
 
--- Adding a term keeps that, and the answer is the number at which the term stands.
-pub add-valid : {n : ℕ} {ts : List ℕ} {count : ℕ} → Valid n ts count → (w : ℕ) {a : Added} → addedOf n ts count w ≡ a
-    → Valid n (tableAfter ts w a) (countAfter count a)
-add-valid v w e = added-valid v w e
-
-pub add-stands : {n : ℕ} {ts : List ℕ} {count : ℕ} → Valid n ts count → (w : ℕ) → AddedIs n ts count w (addedOf n ts count w)
-add-stands v w = added-is v w
+-- Adding a term keeps that, and an accepted answer is the number at which the term stands; older terms stay.
+pub add-exact : {n : ℕ} {ts : List ℕ} {count : ℕ} → Valid n ts count → (w : ℕ) → Adds n ts count w (addOf n ts count w)
+add-exact v w = adds v w
 
 -- A term's message is made of its operands' messages,
 pub meaning : {n : ℕ} {ts : List ℕ} {count : ℕ} → Valid n ts count → (i : ℕ) → i < count → messageAt ts i ≡ messageOf (messageAt ts) (termAt ts i)

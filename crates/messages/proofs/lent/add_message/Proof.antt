@@ -1,13 +1,13 @@
 -- `messages::lent::add_message` meets its contract, by the law for each way out. Assumes nothing.
 use mathlib.Core.Bool.{true}
-use mathlib.Core.Path.{_≡_, refl, sym, _∙_}
+use mathlib.Core.Path.{_≡_, sym, _∙_}
 use Prim.Native.Nat.{_<_, _≤_}
 use native.Mathlib.Omega.{arith}
 use borrow.Author.Tests.{not-true, not-false}
 use lib.ListN.{length}
 use Rattle.terms.specs.Valid.{holds, holds-valid}
 use Rattle.messages.specs.Draft.{draftFits}
-use Rattle.messages.specs.Lent.{start-ready, bad-tables, bad-root, bad-draft, too-many, all-fit, table-with}
+use Rattle.messages.specs.Lent.{start-ready, bad-tables, bad-root, bad-draft, too-many, all-fit}
 use Rattle.messages.specs.Planning.{few}
 use borrow.Author.Needs.{needs}
 use Rattle.messages.proofs.lent.add_message.Statement.{statement}
@@ -42,13 +42,13 @@ same-length : tie.Need-same-length
 same-length c = search needs
 
 returns : tie.Need-returns
-returns c = let a = c .before .before .before .before .args in (bad-tables (a .n) (a .terms .now) (a .count) (a .draft) (a .root) (sym (c .before .holds-together .ensures) ∙ not-true _ (c .if1 .taken)), refl)
+returns c = let a = c .before .before .before .before .args in (bad-tables (a .n) (a .terms .now) (a .count) (a .draft) (a .root) (sym (c .before .holds-together .ensures) ∙ not-true _ (c .if1 .taken)))
 
 same-length-2 : tie.Need-same-length-2
 same-length-2 c = search needs
 
 returns-2 : tie.Need-returns-2
-returns-2 c = let a = c .before .before .before .before .before .args in (bad-root (a .n) (a .terms .now) (a .count) (a .draft) (a .root) (held (c .before)) (omega arith), refl)
+returns-2 c = let a = c .before .before .before .before .before .args in (bad-root (a .n) (a .terms .now) (a .count) (a .draft) (a .root) (held (c .before)) (omega arith))
 
 draft-fits-requires : tie.Need-draft-fits-requires
 draft-fits-requires c κs = search needs
@@ -59,7 +59,7 @@ same-length-3 c = search needs
 returns-3 : tie.Need-returns-3
 returns-3 c =
     let a = c .before .before .before .before .before .before .before .args in
-    (bad-draft (a .n) (a .terms .now) (a .count) (a .draft) (a .root) (held (c .before .before .before)) (inside (c .before .before)) (sym (c .before .draft-fits .ensures) ∙ not-true _ (c .if3 .taken)), refl)
+    (bad-draft (a .n) (a .terms .now) (a .count) (a .draft) (a .root) (held (c .before .before .before)) (inside (c .before .before)) (sym (c .before .draft-fits .ensures) ∙ not-true _ (c .if3 .taken)))
 
 fresh-requires : tie.Need-fresh-requires
 fresh-requires c κs = search needs
@@ -83,7 +83,7 @@ returns-4 : tie.Need-returns-4
 returns-4 c =
     let e = c .before .before .before .before .before .before in
     let a = e .before .before .before .before .before .before .before .args in
-    (too-many (a .n) (a .terms .now) (a .count) (a .draft) (a .root) (held (e .before .before .before)) (inside (e .before .before)) (fitting e) (c .before .before .before .before .fresh .ensures) (c .before .before .before .plan-node .ensures) (planned (c .before)) (omega arith), refl)
+    (too-many (a .n) (a .terms .now) (a .count) (a .draft) (a .root) (held (e .before .before .before)) (inside (e .before .before)) (fitting e) (c .before .before .before .before .fresh .ensures) (c .before .before .before .plan-node .ensures) (planned (c .before)) (omega arith))
 
 write-plan-requires : tie.Need-write-plan-requires
 write-plan-requires c κs =
@@ -101,10 +101,8 @@ returns-5 c =
     let a = e .before .before .before .before .before .before .before .args in
     let p = c .before .before .before .before .before .before .before .plan-node .ensures in
     let f = c .before .before .before .before .before .before .before .before .fresh .ensures in
-    let w = planned (c .before .before .before .before .before) in (
-      all-fit (a .n) (a .terms .now) (a .count) (a .draft) (a .root) (held (e .before .before .before)) (inside (e .before .before)) (fitting e) f p w (omega arith),
-      c .before .before .write-plan .ensures ∙ table-with (a .n) (a .terms .now) (a .count) (a .draft) (a .root) (held (e .before .before .before)) (inside (e .before .before)) (fitting e) f p w,
-    )
+    let w = planned (c .before .before .before .before .before) in
+    rw (c .before .before .write-plan .ensures) (all-fit (a .n) (a .terms .now) (a .count) (a .draft) (a .root) (held (e .before .before .before)) (inside (e .before .before)) (fitting e) f p w (omega arith))
 
 pub add-message-spec : {M : Type 1} → statement M
 add-message-spec =

@@ -1,7 +1,7 @@
 -- `terms::lent::add_term` meets its contract: the check, then `add`. Assumes nothing.
 use borrow.Author.Tests.{not-true, not-false}
 use mathlib.Core.Bool.{true}
-use mathlib.Core.Path.{_≡_, refl, sym, _∙_}
+use mathlib.Core.Path.{_≡_, sym, _∙_}
 use Rattle.terms.specs.Lent.{add-term-bad, add-term-by}
 use Rattle.terms.specs.Valid.{holds, holds-valid}
 use borrow.Author.Needs.{needs}
@@ -18,7 +18,7 @@ same-length : tie.Need-same-length
 same-length c = search needs
 
 returns : tie.Need-returns
-returns c = let a = c .before .before .before .before .args in (add-term-bad (a .n) (a .terms .now) (a .count) (a .word) (sym (c .before .holds-together .ensures) ∙ not-true _ (c .if1 .taken)), refl)
+returns c = let a = c .before .before .before .before .args in add-term-bad (a .n) (a .terms .now) (a .count) (a .word) (sym (c .before .holds-together .ensures) ∙ not-true _ (c .if1 .taken))
 
 add-requires : tie.Need-add-requires
 add-requires c κs = let a = c .before .before .before .before .before .args in holds-valid (a .n) (a .terms .now) (a .count) (held (c .before))
@@ -29,8 +29,7 @@ same-length-2 c = search needs
 returns-2 : tie.Need-returns-2
 returns-2 c =
     let a = c .before .before .before .before .before .before .before .before .args in
-    let r = c .before .before .add .ensures in
-    (add-term-by (a .n) (a .terms .now) (a .count) (a .word) (held (c .before .before .before .before)) (r .0), r .1)
+    add-term-by (a .n) (a .terms .now) (a .count) (a .word) (held (c .before .before .before .before)) (c .before .before .add .ensures)
 
 pub add-term-spec : {M : Type 1} → statement M
 add-term-spec =

@@ -1,6 +1,6 @@
 -- `terms::table::add` meets its contract, by the law for each way out. Assumes nothing.
-use mathlib.Core.Path.{refl, sym, _∙_}
-use Rattle.terms.specs.Add.{add-refused, add-by, full-table, room-left}
+use mathlib.Core.Path.{sym, _∙_}
+use Rattle.terms.specs.Add.{add-refused, add-old, add-full, add-new}
 use borrow.Author.Needs.{needs}
 use Rattle.terms.proofs.table.add.Statement.{statement}
 use Rattle.terms.proofs.table.add.Tie as tie
@@ -12,7 +12,7 @@ same-length : tie.Need-same-length
 same-length c = search needs
 
 returns : tie.Need-returns
-returns c = let a = c .before .before .before .before .args in (add-refused (a .n) (a .terms .now) (a .count) (a .word) _ (c .before .refusal .ensures) (c .if1 .taken), refl)
+returns c = let a = c .before .before .before .before .args in add-refused (a .n) (a .terms .now) (a .count) (a .word) _ (c .before .refusal .ensures) (c .if1 .taken)
 
 find-requires : tie.Need-find-requires
 find-requires c κs = search needs
@@ -26,8 +26,7 @@ same-length-2 c = search needs
 returns-2 : tie.Need-returns-2
 returns-2 c =
     let a = c .before .before .before .before .before .before .before .before .before .args in
-    let found = c .before .before .before in
-    (add-by (a .n) (a .terms .now) (a .count) (a .word) (sym (c .before .before .before .before .before .before .refusal .ensures) ∙ c .before .before .before .before .before .if1 .left) (sym (found .find .ensures) ∙ c .before .i .given .1), refl)
+    add-old (a .n) (a .terms .now) (a .count) (a .word) (sym (c .before .before .before .before .before .before .refusal .ensures) ∙ c .before .before .before .before .before .if1 .left) (sym (c .before .before .before .find .ensures) ∙ c .before .i .given .1)
 
 enum-told : tie.Need-enum-told
 enum-told c = search needs
@@ -38,7 +37,7 @@ same-length-3 c = search needs
 returns-3 : tie.Need-returns-3
 returns-3 c =
     let a = c .before .before .before .before .before .before .before .before .before .args in
-    (full-table (a .count) (c .if2 .taken) ∙ add-by (a .n) (a .terms .now) (a .count) (a .word) (sym (c .before .before .before .before .before .before .refusal .ensures) ∙ c .before .before .before .before .before .if1 .left) (sym (c .before .before .before .find .ensures) ∙ c .before .enum-told .given .1), refl)
+    add-full (a .n) (a .terms .now) (a .count) (a .word) (sym (c .before .before .before .before .before .before .refusal .ensures) ∙ c .before .before .before .before .before .if1 .left) (sym (c .before .before .before .find .ensures) ∙ c .before .enum-told .given .1) (c .if2 .taken)
 
 mul-terms : tie.Need-mul-terms
 mul-terms c = search needs
@@ -52,7 +51,7 @@ same-length-4 c = search needs
 returns-4 : tie.Need-returns-4
 returns-4 c =
     let a = c .before .before .before .before .before .before .before .before .before .args in
-    (room-left (a .count) (c .if2 .left) ∙ add-by (a .n) (a .terms .now) (a .count) (a .word) (sym (c .before .before .before .before .before .before .refusal .ensures) ∙ c .before .before .before .before .before .if1 .left) (sym (c .before .before .before .find .ensures) ∙ c .before .enum-told .given .1), refl)
+    add-new (a .n) (a .terms .now) (a .count) (a .word) (sym (c .before .before .before .before .before .before .refusal .ensures) ∙ c .before .before .before .before .before .if1 .left) (sym (c .before .before .before .find .ensures) ∙ c .before .enum-told .given .1) (c .if2 .left)
 
 pub add-spec : {M : Type 1} → statement M
 add-spec =
