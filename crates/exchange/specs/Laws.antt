@@ -9,5 +9,4 @@ pub mod Taken
 pub mod Acceptance
 pub mod Histories
 pub mod Reading
-pub mod Terms
 pub mod Needs

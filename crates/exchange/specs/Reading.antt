@@ -16,7 +16,8 @@ use Rattle.exchange.specs.declared.run.Row.{Row}
 use Rattle.exchange.specs.Messages.{request, reply, ticket, authenticator}
 use Rattle.exchange.specs.Log.{Event, initiate, respond, issue, authenticate, accept, finish, tick, purge, leak, nothing, Log, sends}
 use Rattle.exchange.specs.Log.{clock, run, next, stored}
-use Rattle.exchange.specs.Terms.{termAt, termOf, insert, addAll, same, given}
+use Rattle.messages.specs.Listed.{termAt, insert, addAll, same}
+use Rattle.exchange.specs.Terms.{termOf, given}
 
 -- A list of calls with their answers, the newest first.
 abbrev pub History : Type 0

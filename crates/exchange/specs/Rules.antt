@@ -17,7 +17,8 @@ use Rattle.exchange.specs.Lists.{_∈_}
 use Rattle.exchange.specs.Messages.{request, reply, ticket, authenticator, confirmation}
 use Rattle.exchange.specs.Log.{Event, initiate, respond, issue, authenticate, accept, finish, tick, purge, leak, nothing, Log, OnWire, sends}
 use Rattle.exchange.specs.Log.{clock, run, next, initiatorOpened, initiatorAuthenticated, responderOpened, serverDone, entry, cache}
-use Rattle.exchange.specs.Terms.{termAt, termOf, insert, TermsFit}
+use Rattle.messages.specs.Listed.{termAt, insert}
+use Rattle.exchange.specs.Terms.{termOf, TermsFit}
 
 -- "the intruder can build m", from what is on the wire at this point
 abbrev pub Derivable : Realm → Log → Message → Type 0

@@ -1,6 +1,8 @@
 pub mod Promises
 pub mod Entered
 pub mod Standing
+pub mod Listed
+pub mod Meanings
 pub mod Draft
 pub mod Writes
 pub mod Plan

@@ -174,7 +174,7 @@ module _ {n : ℕ} (small : n ≤ 65536) where
   key-entered xs v (session i) f = put-word xs v (SessionKey i) (omega arith) f (key (session i)) (λ ys x. refl)
 
   -- a pair, and an encryption, of parts that are there
-  pair-entered : (xs : List ℕ) → Terms n xs (length xs) → length xs ≤ 65536 → {a b : Message} {i j : ℕ} → Standing xs a i → Standing xs b j
+  pub pair-entered : (xs : List ℕ) → Terms n xs (length xs) → length xs ≤ 65536 → {a b : Message} {i j : ℕ} → Standing xs a i → Standing xs b j
       → EnteredIs n xs (withTerm xs (pair a b)) (pair a b)
   unfolding wordIn
   pair-entered xs v room {a} {b} sa sb =
@@ -183,7 +183,7 @@ module _ {n : ℕ} (small : n ≤ 65536) where
       put-word xs v (Pair (numberIn xs a) (numberIn xs b)) (omega (arith, p .below), omega (arith, q .below)) (p .below, q .below) (pair a b)
       (λ ys x. ap₂ pair (standing-later v x p .means) (standing-later v x q .means))
 
-  encrypted-entered : (xs : List ℕ) → Terms n xs (length xs) → length xs ≤ 65536 → {m : Message} {k : Key} {i j : ℕ} → Standing xs m i → Standing xs (key k) j
+  pub encrypted-entered : (xs : List ℕ) → Terms n xs (length xs) → length xs ≤ 65536 → {m : Message} {k : Key} {i j : ℕ} → Standing xs m i → Standing xs (key k) j
       → EnteredIs n xs (withTerm xs (encrypted m k)) (encrypted m k)
   unfolding wordIn
   encrypted-entered xs v room {m} {k} sm sk =

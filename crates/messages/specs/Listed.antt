@@ -1,0 +1,77 @@
+-- The term table as a list of messages: what adding does to it by the rules under "Terms" (document 01), without words and
+-- numbers. A term number is a place in the list. `Meanings` shows that a table of words goes the same way.
+-- Assumes nothing.
+use Prim.Native.Nat.{ℕ, zero, suc}
+use mathlib.Core.HLevel.{Discrete}
+use mathlib.Core.List.{List, [], _∷_, _++_}
+use mathlib.Core.Logic.{ite}
+use mathlib.Core.Option.{Option, none, some}
+use mathlib.Core.Path.{_≡_, refl, ap}
+use native.Mathlib.Decide.{ℕ-discrete}
+use lib.ListN.{getElem?}
+use Rattle.terms.specs.Message.{Message, principal, time, nonce, key, pair, encrypted, Key-discrete, Message-discrete}
+
+-- ---- definitions
+
+-- the message that term number i stands for
+abbrev pub termAt : List Message → ℕ → Option Message
+termAt terms i = getElem? terms i
+
+abbrev pub same : Discrete Message
+same = Message-discrete ℕ-discrete (Key-discrete ℕ-discrete)
+
+-- "No term stands twice: adding one that is present gives its number and changes nothing."
+abbrev pub insert : Message → List Message → List Message
+insert m [] = m ∷ []
+insert m (x ∷ terms) = x ∷ ite (same m x) terms (insert m terms)
+
+-- "its terms are added each after its parts, left before right, body before key"
+abbrev pub add : Message → List Message → List Message
+add (principal p) terms = insert (principal p) terms
+add (time t) terms = insert (time t) terms
+add (nonce i) terms = insert (nonce i) terms
+add (key k) terms = insert (key k) terms
+add (pair x y) terms = insert (pair x y) (add y (add x terms))
+add (encrypted m k) terms = insert (encrypted m k) (insert (key k) (add m terms))
+
+abbrev pub addAll : List Message → List Message → List Message
+addAll [] terms = terms
+addAll (m ∷ ms) terms = addAll ms (add m terms)
+
+-- ---- a term that is present is not added again, a new one goes to the end, and every number keeps its message
+
+some-same : {x y : Message} → some x ≡ some y → x ≡ y
+some-same e = cc
+
+present-rest : {m x : Message} (d : Dec (m ≡ x)) (terms : List Message) → insert m terms ≡ terms → ite d terms (insert m terms) ≡ terms
+present-rest (yes e) terms h = refl
+present-rest (no ne) terms h = h
+
+here-rest : {m x : Message} (d : Dec (m ≡ x)) (terms : List Message) → x ≡ m → ite d terms (insert m terms) ≡ terms
+here-rest (yes e) terms h = refl
+here-rest (no ne) terms h = absurd (ne (cc))
+
+pub insert-present : (m : Message) (terms : List Message) (i : ℕ) → termAt terms i ≡ some m → insert m terms ≡ terms
+insert-present m [] i e = cc
+insert-present m (x ∷ terms) zero e = ap {B = List Message} (λ t. x ∷ t) (here-rest (same m x) terms (some-same e))
+insert-present m (x ∷ terms) (suc i) e = ap {B = List Message} (λ t. x ∷ t) (present-rest (same m x) terms (insert-present m terms i e))
+
+new-rest : {m x : Message} (d : Dec (m ≡ x)) (terms : List Message) → insert m terms ≡ terms ++ (m ∷ []) → ¬ (m ≡ x)
+    → ite d terms (insert m terms) ≡ terms ++ (m ∷ [])
+new-rest (yes e) terms h ne = absurd (ne e)
+new-rest (no _) terms h ne = h
+
+pub insert-new : (m : Message) (terms : List Message) → ((i : ℕ) → ¬ (termAt terms i ≡ some m)) → insert m terms ≡ terms ++ (m ∷ [])
+insert-new m [] h = refl
+insert-new m (x ∷ terms) h =
+    ap {B = List Message} (λ t. x ∷ t) (new-rest (same m x) terms (insert-new m terms (λ i. h (suc i))) (λ e. h 0 (cc)))
+
+kept-rest : {m x y : Message} (d : Dec (m ≡ x)) (terms : List Message) (i : ℕ) → termAt terms i ≡ some y → termAt (insert m terms) i ≡ some y
+    → termAt (ite d terms (insert m terms)) i ≡ some y
+kept-rest (yes e) terms i old new = old
+kept-rest (no ne) terms i old new = new
+
+pub insert-keeps : (m : Message) (terms : List Message) (i : ℕ) {y : Message} → termAt terms i ≡ some y → termAt (insert m terms) i ≡ some y
+insert-keeps m [] i e = cc
+insert-keeps m (x ∷ terms) zero e = e
+insert-keeps m (x ∷ terms) (suc i) e = kept-rest (same m x) terms i e (insert-keeps m terms i e)
