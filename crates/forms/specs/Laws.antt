@@ -1,0 +1,4 @@
+-- The proofs behind Promises.
+pub mod Layers
+pub mod Present
+pub mod Forms
