@@ -34,7 +34,7 @@ pub record Cases : Type 0 where
   -- "H: {key 2}key 1 and key 1 under a bad party's key: key 2 can be built." The bad principal is 2.
   pub h : Derives 3 4 (Both (encrypted (key (k 2)) (k 1)) (encrypted (key (k 1)) (longTerm 2))) (key (k 2))
   -- "I: only {nonce 0}key 1 on the wire: that lock can be built, nonce 0 cannot."
-  pub i-lock : Derives 3 0 (One (encrypted (nonce 0) (k 1))) (encrypted (nonce 0) (k 1))
+  pub i-encrypted : Derives 3 0 (One (encrypted (nonce 0) (k 1))) (encrypted (nonce 0) (k 1))
   pub i-nonce : ¬ (Derives 3 0 (One (encrypted (nonce 0) (k 1))) (nonce 0))
 
 -- ---- an encryption alone on the wire, whose key can't be put together, is all there is to put together from
@@ -62,7 +62,7 @@ cases =
           (derives-in 3 0 None None (λ m w. w) (λ a b x. absurd x) (λ m y x s. x) d);
       g = λ d. shut-1 (key (k 1)) (sealed (key (k 1)) (k 1) (shut-1 (key (k 1))) d);
       h = decrypt (on-wire (inl refl)) (decrypt (on-wire (inr refl)) (bad-key {p = 2} (record { present = omega arith; flagged = refl })));
-      i-lock = on-wire refl;
+      i-encrypted = on-wire refl;
       i-nonce = λ d.
           ⊎-elim (λ e. different (encrypted (nonce 0) (k 1)) (λ q. cc) e) (λ f. omega (arith, f .low)) (sealed (nonce 0) (k 1) (shut-1 (nonce 0)) d);
     }

@@ -1,5 +1,6 @@
 -- What the crate promises beside the contracts of its functions: what holds of the table after a message was added. The
--- contract of `add_message` gives the answer and every place of the table; these laws say what they mean.
+-- contract of `add_message` gives the answer and every place of the table; these laws say what they mean. Reading order of
+-- the definitions: Entered (on words), Listed and Meanings (on messages), Draft, Lent.
 -- Assumes nothing.
 use mathlib.Core.Path.{_≡_, refl, sym, ap, _∙_}
 use mathlib.Core.Bool.{Bool, true, false}
@@ -21,7 +22,9 @@ use Rattle.terms.specs.Valid.{Terms, Valid, holds, holds-valid, terms-same}
 use Rattle.messages.specs.Draft.{draftMessage, draftFits}
 use Rattle.messages.specs.Entered.{entered}
 use Rattle.messages.specs.Lent.{over, addMessageOf}
-use Rattle.messages.specs.Standing.{entered-is, standing-number}
+use Rattle.messages.specs.Listed.{add}
+use Rattle.messages.specs.Meanings.{meanings, meanings-entered}
+use Rattle.messages.specs.Standing.{Writes, entered-is, standing-number}
 use Rattle.messages.specs.Writes.{draft-writes}
 
 -- a message m was added to a table ts of `count` terms; its number is i, and ts′ has `count′` terms
@@ -117,3 +120,8 @@ message-added n small ts count draft root {i} {m} {ts′} e =
       added = refl;
       past = drop-append-seam xs (drop (length xs) ts);
     })
+
+-- In the messages that the words stand for, entering a message is adding it.
+pub entering-adds : {n : ℕ} → n ≤ 65536 → (m : Message) → Writes n m → (xs : List ℕ) → Terms n xs (length xs) → length (entered xs m) ≤ 65536
+    → meanings (entered xs m) (length (entered xs m)) ≡ add m (meanings xs (length xs))
+entering-adds small m w xs v room = meanings-entered small m w xs v room

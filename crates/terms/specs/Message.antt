@@ -1,5 +1,5 @@
 -- Messages: what a term of the table stands for, without numbers of terms (document 01, "Terms").
--- A lock carries a `Key`, so that a lock under anything but a key cannot be written.
+-- An encryption carries a `Key`, so that one under anything but a key cannot be written.
 -- Assumes nothing.
 use Prim.Native.Nat.{ℕ}
 

@@ -21,7 +21,7 @@ by-tests : (n : ℕ) (ts : List ℕ) (at w : ℕ) {a b d : Bool}
 unfolding refusalOf
 by-tests n ts at w p q r = simp (p, q, r)
 
--- what `spare_of` gave, at the shape of the word
+-- what `spare_of` gave, at the term of the word
 spare-is : (c : tie.After-spare-of) → c .spare-of .result ≡ spare (termOf (c .before .before .before .before .args .word)) (rightOf (c .before .before .before .before .args .word))
 spare-is c = c .spare-of .ensures ∙ ap (λ s. spare s (rightOf (c .before .before .before .before .args .word))) (c .before .decode .ensures)
 
