@@ -1,0 +1,21 @@
+-- `runs::row::run_at` meets its contract: the row's words, decoded. Assumes nothing.
+use lib.ListN.{length}
+use mathlib.Core.Path.{_∙_, ap}
+use Rattle.runs.specs.Row.{rowOf}
+use Rattle.runs.specs.Runs.{words-length, runAt}
+use borrow.Author.Needs.{needs}
+use Rattle.runs.proofs.row.run_at.Statement.{statement}
+use Rattle.runs.proofs.row.run_at.Tie as tie
+
+words-at-requires : tie.Need-words-at-requires
+words-at-requires c κs = search needs
+
+decode-requires : tie.Need-decode-requires
+decode-requires c κs = let a = c .before .before .args in ap length (c .words-at .ensures) ∙ words-length (a .runs .now) (search needs) (a .r) (search needs)
+
+returns : tie.Need-returns
+unfolding runAt
+returns c = c .decode .ensures ∙ ap rowOf (c .before .words-at .ensures)
+
+pub run-at-spec : {M : Type 1} → statement M
+run-at-spec = tie.close (tie.spec words-at-requires decode-requires returns)
