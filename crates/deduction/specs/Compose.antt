@@ -9,14 +9,14 @@ use native.Mathlib.Omega.{arith}
 use lib.ListN.{getD}
 use Rattle.marks.specs.Grown.{Grown, grown-refl, grown-trans, grown-with}
 use Rattle.marks.specs.Marks.{Words, marked, withMark, marked-new}
-use Rattle.terms.specs.declared.word.Term.{Term}
-use Rattle.terms.specs.declared.word.Term.the-variants.{Principal, Time, Nonce, LongTermKey, SessionKey, Pair, Encrypted, Unknown}
+use Rattle.words.specs.declared.Term.{Term}
+use Rattle.words.specs.declared.Term.the-variants.{Principal, Time, Nonce, LongTermKey, SessionKey, Pair, Encrypted, Unknown}
 use Rattle.terms.specs.Choice.{no-true}
 use Rattle.terms.specs.Meaning.{keyOf, messageOf, messageAt, message-at, key-at}
 use Rattle.terms.specs.Message.{Message, key}
 use Rattle.terms.specs.Rules.{termAt, isKey, Fields}
 use Rattle.terms.specs.Valid.{Valid, fields-at}
-use Rattle.terms.specs.Word.{TimeFits, time-fits}
+use Rattle.words.specs.Word.{TimeFits, time-fits}
 use Rattle.deduction.specs.declared.compose.Operands.{Operands}
 use Rattle.deduction.specs.declared.compose.Operands.the-variants.{Two, Atom}
 use Rattle.deduction.specs.Known.{Known, known-self}

@@ -7,13 +7,13 @@ use Prim.Native.Nat.{ℕ, _^_, _<_}
 use borrow.Author.Tests.{le-leb, leb-true}
 use lib.Dec.{leb}
 use Rattle.marks.specs.Marks.{isSet, set-is, is-set}
-use Rattle.terms.specs.declared.word.Term.{Term}
-use Rattle.terms.specs.declared.word.Term.the-variants.{Principal, Time, Nonce, LongTermKey, SessionKey, Pair, Encrypted, Unknown}
+use Rattle.words.specs.declared.Term.{Term}
+use Rattle.words.specs.declared.Term.the-variants.{Principal, Time, Nonce, LongTermKey, SessionKey, Pair, Encrypted, Unknown}
 use Rattle.terms.specs.Choice.{no-true}
 use Rattle.terms.specs.Meaning.{messageOf}
 use Rattle.terms.specs.Message.{longTerm, session, Message, principal, time, nonce, key, pair, encrypted}
 use Rattle.terms.specs.Rules.{Fields}
-use Rattle.terms.specs.Word.{TimeFits}
+use Rattle.words.specs.Word.{TimeFits}
 use Rattle.deduction.specs.Derives.{Own, Bad, Derives, a-principal, a-time, bad-key, own-nonce, own-key}
 
 -- the clauses of `Derives` that need neither the wire nor other members

@@ -12,14 +12,14 @@ use native.Mathlib.Omega.{arith}
 use lib.ListN.{getD, length}
 use Rattle.marks.specs.Grown.{Grown, grown-refl, grown-trans, grown-with}
 use Rattle.marks.specs.Marks.{Words, marked, withMark, size, marked-same, marked-keeps, marked-new, with-length}
-use Rattle.terms.specs.declared.word.Term.{Term}
-use Rattle.terms.specs.declared.word.Term.the-variants.{Principal, Time, Nonce, LongTermKey, SessionKey, Pair, Encrypted, Unknown}
+use Rattle.words.specs.declared.Term.{Term}
+use Rattle.words.specs.declared.Term.the-variants.{Principal, Time, Nonce, LongTermKey, SessionKey, Pair, Encrypted, Unknown}
 use Rattle.terms.specs.Choice.{pick, pick-elim}
 use Rattle.terms.specs.Meaning.{messageOf, messageAt, message-at, key-at}
 use Rattle.terms.specs.Message.{Message}
 use Rattle.terms.specs.Rules.{termAt, Fields}
 use Rattle.terms.specs.Valid.{Valid, fields-at}
-use Rattle.terms.specs.Word.{time-fits}
+use Rattle.words.specs.Word.{time-fits}
 use Rattle.deduction.specs.Derives.{Derives, left, right, decrypt}
 use Rattle.deduction.specs.Known.{Saturated}
 use Rattle.deduction.specs.Public.{publicOf, public-free, free}

@@ -6,9 +6,9 @@ use deduction::lent::can_derive;
 use marks::with;
 use terms::lent::add_term;
 use terms::table::Added;
-use terms::word::Term;
-use terms::word::encode;
-use terms::word::pack;
+use words::Term;
+use words::encode;
+use words::pack;
 
 // The server, principal 1, which is good, and principal 2, which is bad.
 fn realm() -> Principals {

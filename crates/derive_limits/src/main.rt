@@ -6,8 +6,8 @@ use deduction::lent::can_derive;
 use marks::with;
 use terms::lent::add_term;
 use terms::table::Added;
-use terms::word::Term;
-use terms::word::encode;
+use words::Term;
+use words::encode;
 
 // The largest realm. Principal 15 is bad.
 fn realm() -> Principals {

@@ -8,9 +8,9 @@ use native.Mathlib.Omega.{arith}
 use lib.Dec.{eqb}
 use denote.Enum.Declared.{tagOf}
 use types.Run.{OneOf, miss}
-use Rattle.terms.proofs.word.Term.{the-type}
-use Rattle.terms.specs.declared.word.Term.{Term}
-use Rattle.terms.specs.declared.word.Term.the-variants.{Principal, Time, Nonce, LongTermKey, SessionKey, Pair, Encrypted, Unknown}
+use Rattle.words.proofs.Term.{the-type}
+use Rattle.words.specs.declared.Term.{Term}
+use Rattle.words.specs.declared.Term.the-variants.{Principal, Time, Nonce, LongTermKey, SessionKey, Pair, Encrypted, Unknown}
 use Rattle.terms.specs.Choice.{pick}
 use Rattle.terms.specs.Meaning.{messageOf, messageAt}
 use Rattle.terms.specs.Message.{Message}

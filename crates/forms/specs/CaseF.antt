@@ -9,7 +9,7 @@ use Rattle.terms.specs.Descend.{descend, layers}
 use Rattle.terms.specs.Message.{Message, principal, pair}
 use Rattle.terms.specs.Number.{place, wordIn, numberIn}
 use Rattle.terms.specs.Table.{findOf}
-use Rattle.terms.specs.Word.{wordOf}
+use Rattle.words.specs.Word.{wordOf}
 use Rattle.forms.specs.Drafts.{REQUEST_ROOT, REPLY_ROOT, TICKET_ROOT, AUTHENTICATOR_ROOT, CONFIRMATION_ROOT}
 use Rattle.forms.specs.Drafts.{requestDraft, issueDraft, authenticatorDraft, confirmationDraft}
 

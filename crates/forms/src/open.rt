@@ -1,8 +1,8 @@
 // The messages of the exchange, taken apart from the outside in. Each layer is an answer of its own, and the first that
 // does not fit ends it with `Other`, which the step that asked turns into refusal 14. Tests of a value against the run's
 // own are the steps'.
-use terms::word::Term;
-use terms::word::decode;
+use words::Term;
+use words::decode;
 ghost use mathlib.Core.Path.{_≡_};
 ghost use Rattle.terms.specs.Meaning.{messageAt};
 ghost use Rattle.terms.specs.Rules.{termAt};

@@ -17,11 +17,11 @@ use Rattle.messages.specs.declared.draft.Layer.{Layer}
 use Rattle.messages.specs.declared.draft.Layer.the-variants as layer
 use Rattle.messages.specs.declared.draft.Node.{Node}
 use Rattle.messages.specs.declared.draft.Node.the-variants as node
-use Rattle.terms.specs.declared.word.Term.the-variants.{Principal, Time, Nonce, LongTermKey, SessionKey}
+use Rattle.words.specs.declared.Term.the-variants.{Principal, Time, Nonce, LongTermKey, SessionKey}
 use Rattle.terms.specs.Choice.{both, both-true, true-both}
 use Rattle.terms.specs.Descend.{descend, descend-at}
 use Rattle.terms.specs.Message.{Key, longTerm, session, Message, principal, time, nonce, key, pair, encrypted}
-use Rattle.terms.specs.Word.{wordOf}
+use Rattle.words.specs.Word.{wordOf}
 
 -- ---- the message
 

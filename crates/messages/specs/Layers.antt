@@ -17,12 +17,12 @@ use Rattle.messages.specs.declared.draft.Layer.the-variants as layer
 use Rattle.messages.specs.declared.draft.Node.{Node}
 use Rattle.messages.specs.declared.draft.Node.the-variants as node
 use Rattle.messages.specs.declared.plan.Plan.{Plan}
-use Rattle.terms.specs.declared.word.Term.the-variants.{Pair, Encrypted}
+use Rattle.words.specs.declared.Term.the-variants.{Pair, Encrypted}
 use Rattle.terms.specs.Choice.{both-true}
 use Rattle.terms.specs.Message.{Key, Message, key, pair, encrypted}
 use Rattle.terms.specs.Number.{keyWord, wordIn, numberIn}
 use Rattle.terms.specs.Valid.{Terms}
-use Rattle.terms.specs.Word.{wordOf}
+use Rattle.words.specs.Word.{wordOf}
 use Rattle.messages.specs.Draft.{keyName, nodeMessage, nodeFits, keyFits, layerOf, wordOfKey}
 use Rattle.messages.specs.Entered.{withWord, entered}
 use Rattle.messages.specs.Plan.{known, noted, NoteIs}

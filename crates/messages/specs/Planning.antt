@@ -16,13 +16,13 @@ use Rattle.messages.specs.declared.draft.Node.the-variants as node
 use Rattle.messages.specs.declared.plan.Plan.{Plan}
 use Rattle.terms.specs.declared.table.Found.{Found}
 use Rattle.terms.specs.declared.table.Found.the-variants.{At, Nothing}
-use Rattle.terms.specs.declared.word.Term.the-variants.{Pair, Encrypted}
+use Rattle.words.specs.declared.Term.the-variants.{Pair, Encrypted}
 use Rattle.terms.specs.Meaning.{messageAt, messages-same}
 use Rattle.terms.specs.Message.{Key, Message, key, pair, encrypted}
 use Rattle.terms.specs.Number.{place, placeBy, keyWord, wordIn, numberIn}
 use Rattle.terms.specs.Table.{findOf, FoundIs, found-is}
 use Rattle.terms.specs.Valid.{Terms}
-use Rattle.terms.specs.Word.{wordOf}
+use Rattle.words.specs.Word.{wordOf}
 use Rattle.messages.specs.Draft.{nodeAt, layerOf, fits-at, draft-at}
 use Rattle.messages.specs.Entered.{withWord, withTerm, entered}
 use Rattle.messages.specs.Layers.{noted-le, noted-room, noted-set, note-longer, known-small, at-number, Atomic, LayerIs, layer-is, pair-word, encrypted-word}

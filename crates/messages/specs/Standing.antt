@@ -11,8 +11,8 @@ use lib.ListN.{length, getD, length-append, List·getD-append}
 use lib.Seq.{getD-append-seam}
 use Rattle.terms.specs.declared.table.Found.{Found}
 use Rattle.terms.specs.declared.table.Found.the-variants.{At, Nothing}
-use Rattle.terms.specs.declared.word.Term.{Term}
-use Rattle.terms.specs.declared.word.Term.the-variants.{Principal, Time, Nonce, LongTermKey, SessionKey, Pair, Encrypted, Unknown}
+use Rattle.words.specs.declared.Term.{Term}
+use Rattle.words.specs.declared.Term.the-variants.{Principal, Time, Nonce, LongTermKey, SessionKey, Pair, Encrypted, Unknown}
 use Rattle.terms.specs.Add.{Extends, extends-refl, extends-trans, extends-by}
 use Rattle.terms.specs.Meaning.{keyOf, messageOf, messageAt, message-at, messages-same, key-at, key-inv, pair-inv, encrypted-inv}
 use Rattle.terms.specs.Message.{Key, longTerm, session, Message, principal, time, nonce, key, pair, encrypted}
@@ -20,7 +20,7 @@ use Rattle.terms.specs.Number.{place, keyWord, wordIn, numberIn, number-at, wor
 use Rattle.terms.specs.Rules.{termAt, spare, refusalOf, passes, Fields, fields-ok, Agree}
 use Rattle.terms.specs.Table.{findOf, FoundIs, found-at, found-is}
 use Rattle.terms.specs.Valid.{Terms, fields-at}
-use Rattle.terms.specs.Word.{kindOf, rightOf, termOf, wordOf, Packs, term-back}
+use Rattle.words.specs.Word.{kindOf, rightOf, termOf, wordOf, Packs, term-back}
 use Rattle.messages.specs.Entered.{withBy, withWord, withTerm, entered}
 
 -- ---- definitions

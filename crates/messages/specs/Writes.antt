@@ -12,14 +12,14 @@ use Rattle.messages.specs.declared.draft.DraftKey.{DraftKey}
 use Rattle.messages.specs.declared.draft.DraftKey.the-variants.{LongTerm, Session}
 use Rattle.messages.specs.declared.draft.Node.{Node}
 use Rattle.messages.specs.declared.draft.Node.the-variants as node
-use Rattle.terms.specs.declared.word.Term.{Term}
-use Rattle.terms.specs.declared.word.Term.the-variants.{Principal, Time, Nonce, LongTermKey, SessionKey, Pair, Encrypted, Unknown}
+use Rattle.words.specs.declared.Term.{Term}
+use Rattle.words.specs.declared.Term.the-variants.{Principal, Time, Nonce, LongTermKey, SessionKey, Pair, Encrypted, Unknown}
 use Rattle.terms.specs.Choice.{both-true}
 use Rattle.terms.specs.Meaning.{keyOf, messageOf, messageAt, message-at, key-at}
 use Rattle.terms.specs.Message.{Message}
 use Rattle.terms.specs.Rules.{termAt, isKey, Fields}
 use Rattle.terms.specs.Valid.{Terms, Valid, fields-at}
-use Rattle.terms.specs.Word.{TimeFits, time-fits}
+use Rattle.words.specs.Word.{TimeFits, time-fits}
 use Rattle.messages.specs.Draft.{keyName, keyFits, nodeMessage, nodeAt, nodeFits, draftMessage, draftFits, fits-at, draft-at}
 use Rattle.messages.specs.Standing.{KeyFits, Writes}
 

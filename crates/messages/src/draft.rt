@@ -1,8 +1,8 @@
 // A message that is to be added, laid out as a small table of its own. The operands of a node are earlier nodes; a node
 // can also be a term that stands in the term table already.
 use terms::rules::LAST_NUMBER;
-use terms::word::Term;
-use terms::word::encode;
+use words::Term;
+use words::encode;
 ghost use mathlib.Core.Path.{_≡_};
 ghost use Rattle.messages.specs.Draft.{keyFits, nodeFits, draftFits, wordOfKey, layerOf};
 

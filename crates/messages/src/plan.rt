@@ -4,7 +4,7 @@ use super::draft::Node;
 use super::draft::layer_of;
 use terms::table::Found;
 use terms::table::find;
-use terms::word::pack;
+use words::pack;
 ghost use mathlib.Core.Path.{_≡_};
 ghost use Prim.Native.Nat.{_+_, _<_, _≤_};
 ghost use lib.ListN.{length};

@@ -11,11 +11,11 @@ use lib.Dec.{ltb, leb, eqb}
 use lib.ListN.{length}
 use Rattle.terms.specs.declared.table.Found.{Found}
 use Rattle.terms.specs.declared.table.Found.the-variants.{At, Nothing}
-use Rattle.terms.specs.declared.word.Term.the-variants.{SessionKey}
+use Rattle.words.specs.declared.Term.the-variants.{SessionKey}
 use Rattle.terms.specs.Choice.{no-true, is-false}
 use Rattle.terms.specs.Table.{findOf, found-at}
 use Rattle.terms.specs.Valid.{isNothing}
-use Rattle.terms.specs.Word.{wordOf}
+use Rattle.words.specs.Word.{wordOf}
 use Rattle.exchange.specs.declared.run.Role.{Role}
 use Rattle.exchange.specs.declared.run.Role.the-variants.{Initiator, Responder, Server}
 use Rattle.exchange.specs.declared.run.Row.{Row}

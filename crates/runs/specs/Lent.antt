@@ -7,10 +7,10 @@ use mathlib.Core.List.{List}
 use Prim.Native.Nat.{ℕ, _*_, _<_, _≤_}
 use lib.Dec.{ltb, leb, eqb}
 use lib.ListN.{length, getD}
-use Rattle.terms.specs.declared.word.Term.the-variants.{SessionKey}
+use Rattle.words.specs.declared.Term.the-variants.{SessionKey}
 use Rattle.terms.specs.Table.{findOf}
 use Rattle.terms.specs.Valid.{isNothing}
-use Rattle.terms.specs.Word.{wordOf}
+use Rattle.words.specs.Word.{wordOf}
 use Rattle.exchange.specs.declared.run.Role.{Role}
 use Rattle.exchange.specs.declared.run.Role.the-variants.{Initiator, Responder, Server}
 use Rattle.exchange.specs.declared.run.Stage.{Stage}

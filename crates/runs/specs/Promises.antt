@@ -9,12 +9,12 @@ use mathlib.Core.Logic.{_↔_, _≢_}
 use Prim.Native.Nat.{ℕ, suc, _<_, _≤_}
 use native.Mathlib.Omega.{arith}
 use lib.ListN.{set}
-use Rattle.terms.specs.declared.word.Term.{Term}
-use Rattle.terms.specs.declared.word.Term.the-variants.{SessionKey}
+use Rattle.words.specs.declared.Term.{Term}
+use Rattle.words.specs.declared.Term.the-variants.{SessionKey}
 use Rattle.terms.specs.Meaning.{messageOf, messageAt, message-at}
 use Rattle.terms.specs.Message.{session, key}
 use Rattle.terms.specs.Valid.{Terms}
-use Rattle.terms.specs.Word.{termOf, term-back}
+use Rattle.words.specs.Word.{termOf, term-back}
 use Rattle.exchange.specs.declared.run.Row.{Row}
 use Rattle.runs.specs.Row.{Fits}
 use Rattle.runs.specs.Runs.{Full, pastRows, runAt, setRun, set-full, set-past, run-same, run-other}

@@ -10,7 +10,7 @@ use messages::draft::Node;
 use messages::lent::Stored;
 use messages::lent::add_message;
 use terms::lent::add_term;
-use terms::word::pack;
+use words::pack;
 
 // Step 1 from principal 1 to 2: [1, 2, nonce 0].
 fn request() -> [Node; 16] {

@@ -7,7 +7,7 @@ use messages::draft::Node;
 use messages::lent::add_message;
 use terms::lent::add_term;
 use terms::lent::find_term;
-use terms::word::pack;
+use words::pack;
 
 // The three calls with what would be in order: a time, and a message that is a principal. `before` is as `terms`.
 fn calls(cause: &[u8], terms: &mut [u64], before: &[u64], count: usize) {

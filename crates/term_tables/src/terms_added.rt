@@ -5,7 +5,7 @@ use super::show::write_lookup;
 use terms::lent::add_term;
 use terms::lent::find_term;
 use terms::table::Added;
-use terms::word::pack;
+use words::pack;
 
 // Adds a term to a copy of a table of a realm of 3.
 fn attempt(subject: &[u8], table: [u64; 512], count: usize, word: u64) {

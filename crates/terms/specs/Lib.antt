@@ -2,7 +2,6 @@ pub mod Promises
 pub mod Choice
 pub mod Message
 pub mod Descend
-pub mod Word
 pub mod Rules
 pub mod Table
 pub mod Valid

@@ -10,14 +10,14 @@ use lib.ListN.{getD, length, take}
 use lib.Seq.{length-take-le, getD-take}
 use Rattle.terms.specs.declared.table.Found.{Found}
 use Rattle.terms.specs.declared.table.Found.the-variants.{At, Nothing}
-use Rattle.terms.specs.declared.word.Term.{Term}
-use Rattle.terms.specs.declared.word.Term.the-variants.{Principal, Time, Nonce, LongTermKey, SessionKey, Pair, Encrypted, Unknown}
+use Rattle.words.specs.declared.Term.{Term}
+use Rattle.words.specs.declared.Term.the-variants.{Principal, Time, Nonce, LongTermKey, SessionKey, Pair, Encrypted, Unknown}
 use Rattle.terms.specs.Meaning.{keyOf, messageOf, messageAt, message-at, messages-same, key-at}
 use Rattle.terms.specs.Message.{Key, longTerm, session, Message, principal, time, nonce, key, pair, encrypted}
 use Rattle.terms.specs.Rules.{termAt, isKey, Fields, word-back, Agree}
 use Rattle.terms.specs.Table.{findOf, FoundIs, found-is}
 use Rattle.terms.specs.Valid.{Terms, Valid, fields-at, passed-at, terms-same}
-use Rattle.terms.specs.Word.{wordOf}
+use Rattle.words.specs.Word.{wordOf}
 
 -- ---- definitions
 

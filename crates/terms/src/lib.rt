@@ -1,5 +1,4 @@
-// Terms and their table: words, rules, search, adding; and whole messages, added all or nothing.
+// Terms and their table: rules, search, adding, and the public calls on a lent table.
 pub mod lent;
 pub mod rules;
 pub mod table;
-pub mod word;

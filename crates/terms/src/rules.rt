@@ -1,6 +1,6 @@
 // The term rules: which word may stand as term number `at` in a realm of n principals.
-use super::word::Term;
-use super::word::decode;
+use words::Term;
+use words::decode;
 ghost use mathlib.Core.Path.{_≡_};
 ghost use Prim.Native.Nat.{_≤_};
 ghost use lib.ListN.{length};

@@ -23,7 +23,7 @@ use Rattle.deduction.proofs.compose.operands_of.Reads as operands-of-re
 use Rattle.deduction.proofs.known.is_public.Reads as is-public-reads
 use Rattle.marks.proofs.has.Reads as has-reads
 use Rattle.marks.proofs.with.Reads as with-reads
-use Rattle.terms.proofs.word.decode.Reads as decode-reads
+use Rattle.words.proofs.decode.Reads as decode-reads
 use Rattle.deduction.proofs.compose.+compose.{statement}
 use Rattle.deduction.proofs.compose.+compose.Tie.{close}
 

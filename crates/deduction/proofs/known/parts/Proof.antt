@@ -3,7 +3,7 @@ use mathlib.Core.List.{List}
 use mathlib.Core.Path.{sym, ap, _∙_, subst}
 use Prim.Native.Nat.{ℕ}
 use Rattle.marks.specs.Marks.{withMark}
-use Rattle.terms.specs.declared.word.Term.the-variants.{Encrypted}
+use Rattle.words.specs.declared.Term.the-variants.{Encrypted}
 use Rattle.terms.specs.Meaning.{Under}
 use borrow.Author.Needs.{needs}
 use Rattle.deduction.proofs.known.parts.Statement.{statement}

@@ -7,8 +7,8 @@ use lib.ListN.{getD}
 use borrow.Author.Needs.{needs}
 use borrow.Fn.Kinds.{In}
 use borrow.Fn.PlainCycle.{Measures, is, falls, and}
-use Rattle.terms.specs.declared.word.Term.the-variants.{Pair, Encrypted}
-use Rattle.terms.specs.Word.{wordOf}
+use Rattle.words.specs.declared.Term.the-variants.{Pair, Encrypted}
+use Rattle.words.specs.Word.{wordOf}
 use Rattle.messages.specs.declared.draft.Layer.{Layer}
 use Rattle.messages.specs.Draft.{nodeAt, layerOf}
 use Rattle.messages.specs.declared.draft.Node.{Node}
@@ -21,7 +21,7 @@ use Rattle.messages.proofs.plan.+plan_node.Lts-plan_node as plan-node-l
 use Rattle.messages.proofs.draft.layer_of.Reads as layer-of-reads
 use Rattle.messages.proofs.plan.note.Reads as note-reads
 use Rattle.messages.proofs.plan.plan_word.Reads as plan-word-reads
-use Rattle.terms.proofs.word.pack.Reads as pack-reads
+use Rattle.words.proofs.pack.Reads as pack-reads
 use Rattle.messages.proofs.plan.+plan_node.{statement}
 use Rattle.messages.proofs.plan.+plan_node.Tie.{close}
 

@@ -6,7 +6,7 @@ use Prim.Native.Nat.{ℕ}
 use borrow.Author.Needs.{needs}
 use borrow.Author.Tests.{lt-ltb, le-ltb, eq-eqb, ne-eqb}
 use lib.Dec.{ltb, eqb}
-use Rattle.terms.specs.Word.{kindOf, rightOf, termOf}
+use Rattle.words.specs.Word.{kindOf, rightOf, termOf}
 use Rattle.terms.specs.Choice.{pick}
 use Rattle.terms.specs.Rules.{spare, fieldsOk, refusalOf}
 use Rattle.terms.proofs.rules.refusal.Statement.{statement}

@@ -1,7 +1,7 @@
 // A term is one word: kind * 2^32 + L * 2^16 + R.
 ghost use mathlib.Core.Path.{_≡_};
 ghost use Prim.Native.Nat.{_+_, _*_};
-ghost use Rattle.terms.specs.Word.{termOf, wordOf};
+ghost use Rattle.words.specs.Word.{termOf, wordOf};
 
 // The kinds.
 pub const PRINCIPAL: u64 = 0;

@@ -1,10 +1,10 @@
--- `terms::word::decode` meets its contract, kind by kind. Assumes nothing.
+-- `words::decode` meets its contract, kind by kind. Assumes nothing.
 use mathlib.Core.Path.{_≡_, ap, sym}
 use Prim.Native.Nat.{ℕ}
-use Rattle.terms.specs.Word.{kindOf, leftOf, rightOf, termBy, termOf, term-unknown}
+use Rattle.words.specs.Word.{kindOf, leftOf, rightOf, termBy, termOf, term-unknown}
 use borrow.Author.Needs.{needs}
-use Rattle.terms.proofs.word.decode.Statement.{statement}
-use Rattle.terms.proofs.word.decode.Tie as tie
+use Rattle.words.proofs.decode.Statement.{statement}
+use Rattle.words.proofs.decode.Tie as tie
 
 -- the term of a word whose kind is known
 known : (w k : ℕ) → kindOf w ≡ k → termBy k (leftOf w) (rightOf w) ≡ termOf w

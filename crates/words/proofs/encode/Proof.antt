@@ -1,9 +1,9 @@
--- `terms::word::encode` meets its contract, term by term. Assumes nothing.
+-- `words::encode` meets its contract, term by term. Assumes nothing.
 use native.Mathlib.Omega.{arith}
-use Rattle.terms.specs.Word.{wordOf}
+use Rattle.words.specs.Word.{wordOf}
 use borrow.Author.Needs.{needs}
-use Rattle.terms.proofs.word.encode.Statement.{statement}
-use Rattle.terms.proofs.word.encode.Tie as tie
+use Rattle.words.proofs.encode.Statement.{statement}
+use Rattle.words.proofs.encode.Tie as tie
 
 enum-known-t : tie.Need-enum-known-t
 enum-known-t c = search needs
