@@ -8,6 +8,8 @@ use mathlib.Core.Option.{Option}
 use lib.ListN.{length, getElem?, set}
 use lib.Dec.{leb, eqb}
 use Rattle.terms.specs.Message.{session, Message, key}
+use Rattle.exchange.specs.declared.event.Event.{Event}
+use Rattle.exchange.specs.declared.event.Event.the-variants.{Initiate, Respond, Issue, Authenticate, Accept, Finish, Tick, Purge, Leak, Nothing}
 use Rattle.exchange.specs.declared.run.Role.{Role}
 use Rattle.exchange.specs.declared.run.Role.the-variants.{Initiator, Responder, Server}
 use Rattle.exchange.specs.declared.run.Stage.{Stage}
@@ -17,20 +19,7 @@ use Rattle.exchange.specs.Realm.{Realm}
 use Rattle.exchange.specs.Lists.{_∈_}
 use Rattle.exchange.specs.Messages.{request, reply, ticket, authenticator, confirmation}
 
--- What an accepted call did. r is the run opened or named, a and b are the run's own. `nothing` is a call that moves neither
--- runs nor clock nor wire nor cache: a term added, step 10, and every refused call.
-pub data Event : Type 0 where
-  initiate : (r a b : ℕ) → Event
-  respond : (r a b : ℕ) → Event
-  issue : (r a b ts n : ℕ) → Event
-  authenticate : (r a b k ts ta : ℕ) → Event
-  accept : (r a b k ts ta : ℕ) → Event
-  finish : (r a b k ts ta : ℕ) → Event
-  tick : (t : ℕ) → Event
-  purge : (b : ℕ) → Event
-  leak : (r : ℕ) → Event
-  nothing : Event
-
+-- One event for each call: what an accepted call did, or `Nothing`.
 abbrev pub Log : Type 0
 Log = List Event
 
@@ -38,16 +27,16 @@ Log = List Event
 
 -- What an event sends or leaks, in the order of sending. The session key of server run r is the one with its number.
 abbrev pub sends : Event → List Message
-sends (initiate r a b) = request a b r ∷ []
-sends (respond r a b) = []
-sends (issue r a b ts n) = reply r b ts n a ∷ ticket r a ts b ∷ []
-sends (authenticate r a b k ts ta) = authenticator a ta k ∷ []
-sends (accept r a b k ts ta) = confirmation ta k ∷ []
-sends (finish r a b k ts ta) = []
-sends (tick t) = []
-sends (purge b) = []
-sends (leak r) = key (session r) ∷ []
-sends nothing = []
+sends (Initiate r a b) = request a b r ∷ []
+sends (Respond r a b) = []
+sends (Issue r a b ts n) = reply r b ts n a ∷ ticket r a ts b ∷ []
+sends (Authenticate r a b k ts ta) = authenticator a ta k ∷ []
+sends (Accept r a b k ts ta) = confirmation ta k ∷ []
+sends (Finish r a b k ts ta) = []
+sends (Tick t) = []
+sends (Purge b) = []
+sends (Leak r) = key (session r) ∷ []
+sends Nothing = []
 
 -- "On the wire is what accepted steps sent or leaked."
 pub data OnWire (l : Log) (m : Message) : Type 0 where
@@ -56,16 +45,16 @@ pub data OnWire (l : Log) (m : Message) : Type 0 where
 -- ---- the clock
 
 abbrev pub clockAfter : Event → ℕ → ℕ
-clockAfter (initiate r a b) now = now
-clockAfter (respond r a b) now = now
-clockAfter (issue r a b ts n) now = now
-clockAfter (authenticate r a b k ts ta) now = now
-clockAfter (accept r a b k ts ta) now = now
-clockAfter (finish r a b k ts ta) now = now
-clockAfter (tick t) now = t
-clockAfter (purge b) now = now
-clockAfter (leak r) now = now
-clockAfter nothing now = now
+clockAfter (Initiate r a b) now = now
+clockAfter (Respond r a b) now = now
+clockAfter (Issue r a b ts n) now = now
+clockAfter (Authenticate r a b k ts ta) now = now
+clockAfter (Accept r a b k ts ta) now = now
+clockAfter (Finish r a b k ts ta) now = now
+clockAfter (Tick t) now = t
+clockAfter (Purge b) now = now
+clockAfter (Leak r) now = now
+clockAfter Nothing now = now
 
 -- "The clock is the t of the last accepted step 7, 0 before any."
 abbrev pub clock : Log → ℕ
@@ -85,16 +74,16 @@ pub data Run : Type 0 where
   serverDone : (a b k ts n : ℕ) → Run
 
 abbrev pub runsAfter : Event → List Run → List Run
-runsAfter (initiate r a b) t = t ++ (initiatorOpened a b ∷ [])
-runsAfter (respond r a b) t = t ++ (responderOpened a b ∷ [])
-runsAfter (issue r a b ts n) t = t ++ (serverDone a b r ts n ∷ [])
-runsAfter (authenticate r a b k ts ta) t = set t r (initiatorAuthenticated a b k ts ta)
-runsAfter (accept r a b k ts ta) t = set t r (responderDone a b k ts ta)
-runsAfter (finish r a b k ts ta) t = set t r (initiatorDone a b k ts ta)
-runsAfter (tick t′) t = t
-runsAfter (purge b) t = t
-runsAfter (leak r) t = t
-runsAfter nothing t = t
+runsAfter (Initiate r a b) t = t ++ (initiatorOpened a b ∷ [])
+runsAfter (Respond r a b) t = t ++ (responderOpened a b ∷ [])
+runsAfter (Issue r a b ts n) t = t ++ (serverDone a b r ts n ∷ [])
+runsAfter (Authenticate r a b k ts ta) t = set t r (initiatorAuthenticated a b k ts ta)
+runsAfter (Accept r a b k ts ta) t = set t r (responderDone a b k ts ta)
+runsAfter (Finish r a b k ts ta) t = set t r (initiatorDone a b k ts ta)
+runsAfter (Tick t′) t = t
+runsAfter (Purge b) t = t
+runsAfter (Leak r) t = t
+runsAfter Nothing t = t
 
 -- "runs, numbered as opened"
 abbrev pub runs : Log → List Run
@@ -136,16 +125,16 @@ forget b now life [] = []
 forget b now life (entry b′ k ta ∷ c) = keepUnless (eqb b b′ && leb (ta + life) now) (entry b′ k ta) (forget b now life c)
 
 abbrev pub cacheAfter : Realm → (now : ℕ) → Event → List Entry → List Entry
-cacheAfter R now (initiate r a b) c = c
-cacheAfter R now (respond r a b) c = c
-cacheAfter R now (issue r a b ts n) c = c
-cacheAfter R now (authenticate r a b k ts ta) c = c
-cacheAfter R now (accept r a b k ts ta) c = c ++ (entry b k ta ∷ [])
-cacheAfter R now (finish r a b k ts ta) c = c
-cacheAfter R now (tick t) c = c
-cacheAfter R now (purge b) c = forget b now (R .authLife) c
-cacheAfter R now (leak r) c = c
-cacheAfter R now nothing c = c
+cacheAfter R now (Initiate r a b) c = c
+cacheAfter R now (Respond r a b) c = c
+cacheAfter R now (Issue r a b ts n) c = c
+cacheAfter R now (Authenticate r a b k ts ta) c = c
+cacheAfter R now (Accept r a b k ts ta) c = c ++ (entry b k ta ∷ [])
+cacheAfter R now (Finish r a b k ts ta) c = c
+cacheAfter R now (Tick t) c = c
+cacheAfter R now (Purge b) c = forget b now (R .authLife) c
+cacheAfter R now (Leak r) c = c
+cacheAfter R now Nothing c = c
 
 abbrev pub cache : Realm → Log → List Entry
 cache R [] = []

@@ -1,6 +1,6 @@
 -- The reading of a list of calls with their answers (document 01, "The list behind demand 3"): a log and a term table, made
 -- from the fields of the calls, the readings before, and whether each answer accepts. No table or check of an engine is looked
--- at, and no number in an answer. What an accepted call means where it does not read is `nothing`; no rule takes that.
+-- at, and no number in an answer. What an accepted call means where it does not read is `Nothing`; no rule takes that.
 -- Assumes nothing.
 use Prim.Native.Nat.{ℕ}
 use mathlib.Core.Bool.{Bool, true, false}
@@ -14,7 +14,9 @@ use Rattle.exchange.specs.declared.call.Answer.{Answer}
 use Rattle.exchange.specs.declared.call.Answer.the-variants.{Number, OkRun, Ok, Refused}
 use Rattle.exchange.specs.declared.run.Row.{Row}
 use Rattle.exchange.specs.Messages.{request, reply, ticket, authenticator}
-use Rattle.exchange.specs.Log.{Event, initiate, respond, issue, authenticate, accept, finish, tick, purge, leak, nothing, Log, sends}
+use Rattle.exchange.specs.declared.event.Event.{Event}
+use Rattle.exchange.specs.declared.event.Event.the-variants.{Initiate, Respond, Issue, Authenticate, Accept, Finish, Tick, Purge, Leak, Nothing}
+use Rattle.exchange.specs.Log.{Log, sends}
 use Rattle.exchange.specs.Log.{clock, run, next, stored}
 use Rattle.messages.specs.Listed.{termAt, insert, addAll, same}
 use Rattle.exchange.specs.Terms.{termOf, given}
@@ -64,7 +66,7 @@ at i x = getD x i 0
 
 -- the event that the numbers of m give, where m has this form
 abbrev readAs : Message → Message → (List ℕ → Event) → Event
-readAs f m e = ite (same (form m) f) (e (numbers m)) nothing
+readAs f m e = ite (same (form m) f) (e (numbers m)) Nothing
 
 -- ---- the event of an accepted call
 
@@ -73,39 +75,39 @@ readAs f m e = ite (same (form m) f) (e (numbers m)) nothing
 
 -- [a, b, N]; the run's own number is its key's
 abbrev read3 : Log → Message → Event
-read3 l m = readAs (request 0 0 0) m (λ v. issue (next l) (at 0 v) (at 1 v) (clock l) (at 2 v))
+read3 l m = readAs (request 0 0 0) m (λ v. Issue (next l) (at 0 v) (at 1 v) (clock l) (at 2 v))
 
 -- {K, b, Ts, N} under a's key; a and b are the run's own
 abbrev read4 : (r now : ℕ) → Row → Message → Event
-read4 r now own m = readAs (reply 0 0 0 0 0) m (λ v. authenticate r (own .a) (own .b) (at 0 v) (at 2 v) now)
+read4 r now own m = readAs (reply 0 0 0 0 0) m (λ v. Authenticate r (own .a) (own .b) (at 0 v) (at 2 v) now)
 
 -- {K, a, Ts} under b's key and {a, Ta}K; a and b are the run's own
 abbrev read5 : (r : ℕ) → Row → Message → Event
-read5 r own m = readAs (pair (ticket 0 0 0 0) (authenticator 0 0 0)) m (λ v. accept r (own .a) (own .b) (at 0 v) (at 2 v) (at 5 v))
+read5 r own m = readAs (pair (ticket 0 0 0 0) (authenticator 0 0 0)) m (λ v. Accept r (own .a) (own .b) (at 0 v) (at 2 v) (at 5 v))
 
 -- all values are the run's own
 abbrev read6 : (r : ℕ) → Row → Event
-read6 r own = finish r (own .a) (own .b) (own .k) (own .ts) (own .ta)
+read6 r own = Finish r (own .a) (own .b) (own .k) (own .ts) (own .ta)
 
 -- by the step's number, from 0 on
 abbrev pub eventOf : Call → Reading → Event
-eventOf (Term kind x y) ρ = nothing
+eventOf (Term kind x y) ρ = Nothing
 eventOf (Step step r a b m t) ρ =
     let l = ρ .log in
     let term = termAt (ρ .terms) m in
     getD (
-    nothing
-    ∷ initiate (next l) a b
-    ∷ respond (next l) a b
-    ∷ given term nothing (λ x. read3 l x)
-    ∷ given (run l r) nothing (λ o. given term nothing (λ x. read4 r (clock l) (stored o) x))
-    ∷ given (run l r) nothing (λ o. given term nothing (λ x. read5 r (stored o) x))
-    ∷ given (run l r) nothing (λ o. read6 r (stored o))
-    ∷ tick t
-    ∷ purge b
-    ∷ leak r
-    ∷ nothing
-    ∷ []) step nothing
+    Nothing
+    ∷ Initiate (next l) a b
+    ∷ Respond (next l) a b
+    ∷ given term Nothing (λ x. read3 l x)
+    ∷ given (run l r) Nothing (λ o. given term Nothing (λ x. read4 r (clock l) (stored o) x))
+    ∷ given (run l r) Nothing (λ o. given term Nothing (λ x. read5 r (stored o) x))
+    ∷ given (run l r) Nothing (λ o. read6 r (stored o))
+    ∷ Tick t
+    ∷ Purge b
+    ∷ Leak r
+    ∷ Nothing
+    ∷ []) step Nothing
 
 -- ---- the term table after an accepted call
 
@@ -121,7 +123,7 @@ empty = record { log = []; terms = [] }
 
 abbrev pub read : Bool → Call → Reading → Reading
 read true c ρ = record { log = eventOf c ρ ∷ ρ .log; terms = termsAfter c ρ }
-read false c ρ = record { log = nothing ∷ ρ .log; terms = ρ .terms }
+read false c ρ = record { log = Nothing ∷ ρ .log; terms = ρ .terms }
 
 abbrev pub reading : History → Reading
 reading [] = empty

@@ -15,7 +15,9 @@ use Rattle.exchange.specs.declared.call.Call.the-variants.{Term, Step}
 use Rattle.exchange.specs.Realm.{Realm}
 use Rattle.exchange.specs.Lists.{_∈_}
 use Rattle.exchange.specs.Messages.{request, reply, ticket, authenticator, confirmation}
-use Rattle.exchange.specs.Log.{Event, initiate, respond, issue, authenticate, accept, finish, tick, purge, leak, nothing, Log, OnWire, sends}
+use Rattle.exchange.specs.declared.event.Event.{Event}
+use Rattle.exchange.specs.declared.event.Event.the-variants.{Initiate, Respond, Issue, Authenticate, Accept, Finish, Tick, Purge, Leak, Nothing}
+use Rattle.exchange.specs.Log.{Log, OnWire, sends}
 use Rattle.exchange.specs.Log.{clock, run, next, initiatorOpened, initiatorAuthenticated, responderOpened, serverDone, entry, cache}
 use Rattle.messages.specs.Listed.{termAt, insert}
 use Rattle.exchange.specs.Terms.{termOf, TermsFit}
@@ -60,36 +62,36 @@ pub data Takes (R : Realm) (terms : List Message) (l : Log) : Call → Event →
   takes-term : {kind x y : ℕ} {m : Message}
       → termOf terms kind x y ≡ some m
       → length (insert m terms) ≤ 512
-      → Takes R terms l (Term kind x y) nothing
+      → Takes R terms l (Term kind x y) Nothing
   -- "1 | a, b | opens an initiator run r; sends [a, b, nonce r]"
   takes1 : {a b : ℕ}
       → (a < R .n) × (b < R .n)
       → Apart a b
       → RunFits l
-      → TermsFit (sends (initiate (next l) a b)) terms
-      → Takes R terms l (Step 1 0 a b 0 0) (initiate (next l) a b)
+      → TermsFit (sends (Initiate (next l) a b)) terms
+      → Takes R terms l (Step 1 0 a b 0 0) (Initiate (next l) a b)
   -- "2 | a, b | opens a responder run of b for a"
   takes2 : {a b : ℕ}
       → (a < R .n) × (b < R .n)
       → Apart a b
       → RunFits l
-      → Takes R terms l (Step 2 0 a b 0 0) (respond (next l) a b)
+      → Takes R terms l (Step 2 0 a b 0 0) (Respond (next l) a b)
   -- "3 | m | m is [a, b, any nonce N], a and b unequal and not 0; opens server run r; K is session key r, Ts the clock; sends
   -- {K, b, Ts, N} under a's key, then {K, a, Ts} under b's key"
   takes3 : {m a b n : ℕ}
       → Delivers R terms l m (request a b n)
       → Apart a b
       → RunFits l
-      → TermsFit (sends (issue (next l) a b (clock l) n)) terms
-      → Takes R terms l (Step 3 0 0 0 m 0) (issue (next l) a b (clock l) n)
+      → TermsFit (sends (Issue (next l) a b (clock l) n)) terms
+      → Takes R terms l (Step 3 0 0 0 m 0) (Issue (next l) a b (clock l) n)
   -- "4 | run, m | m is {K, b, Ts, own nonce} under a's key; Ta becomes the clock; sends {a, Ta}K"
   takes4 : {r m a b k ts n : ℕ}
       → run l r ≡ some (initiatorOpened a b)
       → Delivers R terms l m (reply k b ts n a)
       → OwnNonce r n
       → TicketLives R l ts
-      → TermsFit (sends (authenticate r a b k ts (clock l))) terms
-      → Takes R terms l (Step 4 r 0 0 m 0) (authenticate r a b k ts (clock l))
+      → TermsFit (sends (Authenticate r a b k ts (clock l))) terms
+      → Takes R terms l (Step 4 r 0 0 m 0) (Authenticate r a b k ts (clock l))
   -- "5 | run, m | m is the pair of {K, a, Ts} under b's key and {a, Ta}K; remembers b, K, Ta; sends {Ta}K"
   takes5 : {r m a b k ts ta : ℕ}
       → run l r ≡ some (responderOpened a b)
@@ -98,19 +100,19 @@ pub data Takes (R : Realm) (terms : List Message) (l : Log) : Call → Event →
       → AuthenticatorLives R l ta
       → ¬ (entry b k ta ∈ cache R l)
       → EntryFits R l
-      → TermsFit (sends (accept r a b k ts ta)) terms
-      → Takes R terms l (Step 5 r 0 0 m 0) (accept r a b k ts ta)
+      → TermsFit (sends (Accept r a b k ts ta)) terms
+      → Takes R terms l (Step 5 r 0 0 m 0) (Accept r a b k ts ta)
   -- "6 | run, m | m is {Ta}K with the run's own values; the run is done"
   takes6 : {r m a b k ts ta : ℕ}
       → run l r ≡ some (initiatorAuthenticated a b k ts ta)
       → Delivers R terms l m (confirmation ta k)
       → TicketLives R l ts
-      → Takes R terms l (Step 6 r 0 0 m 0) (finish r a b k ts ta)
+      → Takes R terms l (Step 6 r 0 0 m 0) (Finish r a b k ts ta)
   -- "7 | t | clock becomes t"
-  takes7 : {t : ℕ} → clock l ≤ t → Takes R terms l (Step 7 0 0 0 0 t) (tick t)
+  takes7 : {t : ℕ} → clock l ≤ t → Takes R terms l (Step 7 0 0 0 0 t) (Tick t)
   -- "8 | b | forgets b's entries whose Ta + La is at or below the clock; the rest keep their order"
-  takes8 : {b : ℕ} → b < R .n → Takes R terms l (Step 8 0 0 b 0 0) (purge b)
+  takes8 : {b : ℕ} → b < R .n → Takes R terms l (Step 8 0 0 b 0 0) (Purge b)
   -- "9 | run | leaks a server run's key onto the wire; leaking it again changes nothing"
-  takes9 : {r a b k ts n : ℕ} → run l r ≡ some (serverDone a b k ts n) → Takes R terms l (Step 9 r 0 0 0 0) (leak r)
+  takes9 : {r a b k ts n : ℕ} → run l r ≡ some (serverDone a b k ts n) → Takes R terms l (Step 9 r 0 0 0 0) (Leak r)
   -- "10 | m | accepted if the intruder can build m; changes nothing"
-  takes10 : {m : ℕ} {x : Message} → Delivers R terms l m x → Takes R terms l (Step 10 0 0 0 m 0) nothing
+  takes10 : {m : ℕ} {x : Message} → Delivers R terms l m x → Takes R terms l (Step 10 0 0 0 m 0) Nothing

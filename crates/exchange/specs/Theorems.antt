@@ -11,7 +11,8 @@ use Rattle.terms.specs.Message.{Message}
 use Rattle.exchange.specs.declared.call.Call.{Call}
 use Rattle.exchange.specs.declared.call.Call.the-variants.{Step}
 use Rattle.exchange.specs.Realm.{Realm, Header}
-use Rattle.exchange.specs.Log.{Event, Log, Run, run, stored}
+use Rattle.exchange.specs.declared.event.Event.{Event}
+use Rattle.exchange.specs.Log.{Log, Run, run, stored}
 use Rattle.exchange.specs.Rules.{Takes}
 use Rattle.exchange.specs.Reading.{History, Reading, reading, eventOf}
 use Rattle.exchange.specs.Agreement.{Demand3}

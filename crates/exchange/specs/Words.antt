@@ -4,41 +4,42 @@
 use Prim.Native.Nat.{ℕ}
 use mathlib.Core.List.{_∷_}
 use Rattle.exchange.specs.Lists.{_∈_}
-use Rattle.exchange.specs.Log.{Log, initiate, respond, issue, authenticate, accept, leak}
+use Rattle.exchange.specs.declared.event.Event.the-variants.{Initiate, Respond, Issue, Authenticate, Accept, Leak}
+use Rattle.exchange.specs.Log.{Log}
 
 -- "An initiator run is of the a of its step 1 and meant for that b."
 abbrev pub Initiator : Log → (r a b : ℕ) → Type 0
-Initiator l r a b = initiate r a b ∈ l
+Initiator l r a b = Initiate r a b ∈ l
 
 -- "A responder run is of the b of its step 2 and opened for that a."
 abbrev pub Responder : Log → (r a b : ℕ) → Type 0
-Responder l r a b = respond r a b ∈ l
+Responder l r a b = Respond r a b ∈ l
 
 -- r is a run of the principal p. "A server run is of party 0."
 pub data RunOf (l : Log) (r : ℕ) : ℕ → Type 0 where
-  of-initiator : {a b : ℕ} → initiate r a b ∈ l → RunOf l r a
-  of-responder : {a b : ℕ} → respond r a b ∈ l → RunOf l r b
-  of-server : {a b ts n : ℕ} → issue r a b ts n ∈ l → RunOf l r 0
+  of-initiator : {a b : ℕ} → Initiate r a b ∈ l → RunOf l r a
+  of-responder : {a b : ℕ} → Respond r a b ∈ l → RunOf l r b
+  of-server : {a b ts n : ℕ} → Issue r a b ts n ∈ l → RunOf l r 0
 
 -- "A run has, or holds, K and Ts from its accepted step 3, 4 or 5 on: made at 3, read from m at 4 and 5. Ta is the clock at 4
 -- and read from m at 5; a server run has none." All three:
 pub data Has (l : Log) (r k ts ta : ℕ) : Type 0 where
-  from4 : {a b : ℕ} → authenticate r a b k ts ta ∈ l → Has l r k ts ta
-  from5 : {a b : ℕ} → accept r a b k ts ta ∈ l → Has l r k ts ta
+  from4 : {a b : ℕ} → Authenticate r a b k ts ta ∈ l → Has l r k ts ta
+  from5 : {a b : ℕ} → Accept r a b k ts ta ∈ l → Has l r k ts ta
 
 -- and the key:
 pub data Holds (l : Log) (r : ℕ) : ℕ → Type 0 where
-  from3 : {a b ts n : ℕ} → issue r a b ts n ∈ l → Holds l r r
+  from3 : {a b ts n : ℕ} → Issue r a b ts n ∈ l → Holds l r r
   has : {k ts ta : ℕ} → Has l r k ts ta → Holds l r k
 
 -- "A run of B accepts A at its accepted step 5, if it was opened for A": at the point right after that step
 pub data Accepts : Log → (r a b k ts ta : ℕ) → Type 0 where
-  accepts5 : {l : Log} {r a b k ts ta : ℕ} → Accepts (accept r a b k ts ta ∷ l) r a b k ts ta
+  accepts5 : {l : Log} {r a b k ts ta : ℕ} → Accepts (Accept r a b k ts ta ∷ l) r a b k ts ta
 
 -- "A server's key is the session key with the number of an opened server run."
 pub data ServersKey (l : Log) (k : ℕ) : Type 0 where
-  opened3 : {a b ts n : ℕ} → issue k a b ts n ∈ l → ServersKey l k
+  opened3 : {a b ts n : ℕ} → Issue k a b ts n ∈ l → ServersKey l k
 
 -- "It has leaked from the first accepted step 9 that names that run; nothing else counts as a leak."
 abbrev pub Leaked : Log → ℕ → Type 0
-Leaked l k = leak k ∈ l
+Leaked l k = Leak k ∈ l

@@ -17,7 +17,8 @@ use Rattle.exchange.specs.declared.call.Call.the-variants.{Term, Step}
 use Rattle.exchange.specs.declared.call.Answer.the-variants.{Number, OkRun, Refused}
 use Rattle.exchange.specs.Realm.{Realm, Good, Header}
 use Rattle.exchange.specs.Lists.{_∈_, here, there, now, before}
-use Rattle.exchange.specs.Log.{initiate, respond, issue, authenticate, accept, finish, nothing, Log, sent}
+use Rattle.exchange.specs.declared.event.Event.the-variants.{Initiate, Respond, Issue, Authenticate, Accept, Finish, Nothing}
+use Rattle.exchange.specs.Log.{Log, sent}
 use Rattle.exchange.specs.Rules.{Apart, takes-term, takes1, takes2, takes3, takes4, takes5, takes6}
 use Rattle.exchange.specs.Reading.{History, log}
 use Rattle.exchange.specs.Words.{Leaked, accepts5}
@@ -77,9 +78,9 @@ abbrev pub caseF : History
 caseF = (Step 5 3 0 0 17 0, Refused 18) ∷ (Step 2 0 1 2 0 0, OkRun 3) ∷ (Step 6 0 0 0 18 0, OkRun 0) ∷ accepting
 
 abbrev accepted : Log
-accepted = accept 2 1 2 1 0 0 ∷ nothing ∷ respond 2 1 2 ∷ authenticate 0 1 2 1 0 0 ∷ issue 1 1 2 0 0 ∷ initiate 0 1 2 ∷ []
+accepted = Accept 2 1 2 1 0 0 ∷ Nothing ∷ Respond 2 1 2 ∷ Authenticate 0 1 2 1 0 0 ∷ Issue 1 1 2 0 0 ∷ Initiate 0 1 2 ∷ []
 
-pub reads : log caseF ≡ nothing ∷ respond 3 1 2 ∷ finish 0 1 2 1 0 0 ∷ accepted
+pub reads : log caseF ≡ Nothing ∷ Respond 3 1 2 ∷ Finish 0 1 2 1 0 0 ∷ accepted
 unfolding ℕ-discrete
 reads = refl
 

@@ -12,7 +12,8 @@ use Rattle.exchange.specs.declared.call.Call.the-variants.{Term, Step}
 use Rattle.exchange.specs.declared.call.Answer.the-variants.{Number, OkRun}
 use Rattle.exchange.specs.Realm.{Realm}
 use Rattle.exchange.specs.Lists.{here, there}
-use Rattle.exchange.specs.Log.{respond, issue, accept, leak, nothing, Log, sent}
+use Rattle.exchange.specs.declared.event.Event.the-variants.{Respond, Issue, Accept, Leak, Nothing}
+use Rattle.exchange.specs.Log.{Log, sent}
 use Rattle.exchange.specs.Rules.{takes-term, takes2, takes3, takes5, takes9}
 use Rattle.exchange.specs.Reading.{History, log}
 use Rattle.exchange.specs.Words.{Initiator, Accepts, accepts5}
@@ -66,7 +67,7 @@ abbrev pub leaked : History
 leaked = delivered ((Step 9 0 0 0 0 0, OkRun 0) ∷ asked)
 
 abbrev leaked-log : Log
-leaked-log = accept 1 1 2 0 0 0 ∷ nothing ∷ nothing ∷ respond 1 1 2 ∷ leak 0 ∷ issue 0 1 2 0 64 ∷ nothing ∷ nothing ∷ nothing ∷ nothing ∷ nothing ∷ []
+leaked-log = Accept 1 1 2 0 0 0 ∷ Nothing ∷ Nothing ∷ Respond 1 1 2 ∷ Leak 0 ∷ Issue 0 1 2 0 64 ∷ Nothing ∷ Nothing ∷ Nothing ∷ Nothing ∷ Nothing ∷ []
 
 leaked-none : {i a b : ℕ} → ¬ (Initiator leaked-log i a b)
 leaked-none (there (there (there (there (there (there (there (there (there (there (there i))))))))))) = nowhere i
@@ -94,7 +95,7 @@ abbrev pub badA : History
 badA = delivered asked
 
 abbrev badA-log : Log
-badA-log = accept 1 1 2 0 0 0 ∷ nothing ∷ nothing ∷ respond 1 1 2 ∷ issue 0 1 2 0 64 ∷ nothing ∷ nothing ∷ nothing ∷ nothing ∷ nothing ∷ []
+badA-log = Accept 1 1 2 0 0 0 ∷ Nothing ∷ Nothing ∷ Respond 1 1 2 ∷ Issue 0 1 2 0 64 ∷ Nothing ∷ Nothing ∷ Nothing ∷ Nothing ∷ Nothing ∷ []
 
 badA-none : {i a b : ℕ} → ¬ (Initiator badA-log i a b)
 badA-none (there (there (there (there (there (there (there (there (there (there i)))))))))) = nowhere i
@@ -137,7 +138,7 @@ badB =
     ∷ []
 
 abbrev badB-log : Log
-badB-log = accept 0 1 2 64 0 0 ∷ respond 0 1 2 ∷ nothing ∷ nothing ∷ nothing ∷ nothing ∷ nothing ∷ nothing ∷ nothing ∷ nothing ∷ nothing ∷ []
+badB-log = Accept 0 1 2 64 0 0 ∷ Respond 0 1 2 ∷ Nothing ∷ Nothing ∷ Nothing ∷ Nothing ∷ Nothing ∷ Nothing ∷ Nothing ∷ Nothing ∷ Nothing ∷ []
 
 badB-none : {i a b : ℕ} → ¬ (Initiator badB-log i a b)
 badB-none (there (there (there (there (there (there (there (there (there (there (there i))))))))))) = nowhere i

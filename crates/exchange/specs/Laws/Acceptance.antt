@@ -9,7 +9,8 @@ use mathlib.Core.Logic.{_⊎_, inl, inr}
 use Rattle.terms.specs.Message.{session, key}
 use Rattle.exchange.specs.Realm.{Realm, Good}
 use Rattle.exchange.specs.Lists.{_∈_, _⊑_, now, in-later}
-use Rattle.exchange.specs.Log.{issue, authenticate, accept, Log}
+use Rattle.exchange.specs.declared.event.Event.the-variants.{Issue, Authenticate, Accept}
+use Rattle.exchange.specs.Log.{Log}
 use Rattle.exchange.specs.Rules.{Derivable}
 use Rattle.exchange.specs.Words.{Initiator, RunOf, of-initiator, Has, from4, from5, Holds, from3, has, Leaked}
 use Rattle.exchange.specs.Laws.Trace.{Trace, trace-at}
@@ -20,9 +21,9 @@ use Rattle.exchange.specs.Laws.Taken.{issue-apart, authenticate-issued, 
 
 -- ---- a key that the server issued to two good principals
 
-module _ {R : Realm} {l : Log} (w : Trace R l) {A B k ts n : ℕ} (goodA : Good R A) (goodB : Good R B) (issued : issue k A B ts n ∈ l) where
+module _ {R : Realm} {l : Log} (w : Trace R l) {A B k ts n : ℕ} (goodA : Good R A) (goodB : Good R B) (issued : Issue k A B ts n ∈ l) where
   -- It was issued once.
-  same-issue : {p : Log} {i a b ts′ n′ : ℕ} → p ⊑ l → i ≡ k → issue i a b ts′ n′ ∈ p → (A ≡ a) × (B ≡ b) × (ts ≡ ts′) × (n ≡ n′)
+  same-issue : {p : Log} {i a b ts′ n′ : ℕ} → p ⊑ l → i ≡ k → Issue i a b ts′ n′ ∈ p → (A ≡ a) × (B ≡ b) × (ts ≡ ts′) × (n ≡ n′)
   same-issue {p} s e h = issue-once w issued (in-later s (rw e at h))
 
   -- While it has not leaked it is secret.
@@ -35,7 +36,7 @@ module _ {R : Realm} {l : Log} (w : Trace R l) {A B k ts n : ℕ} (goodA : Good 
   }
 
   -- A good principal's initiator run that took it is the run whose nonce the server saw.
-  taken-by : {p : Log} {i a b ts′ ta : ℕ} → p ⊑ l → Good R a → authenticate i a b k ts′ ta ∈ p → n ≡ i
+  taken-by : {p : Log} {i a b ts′ ta : ℕ} → p ⊑ l → Good R a → Authenticate i a b k ts′ ta ∈ p → n ≡ i
   taken-by s g h = same-issue s refl (authenticate-issued (trace-at w s) g h) .3
 
 -- ---- the partner
@@ -43,17 +44,17 @@ module _ {R : Realm} {l : Log} (w : Trace R l) {A B k ts n : ℕ} (goodA : Good 
 -- An initiator run of A, meant for B, that took the same values from the server.
 pub record Partner (l : Log) (A B k ts ta : ℕ) : Type 0 where
   pub run : ℕ
-  pub authenticated : authenticate run A B k ts ta ∈ l
-  pub issued : issue k A B ts run ∈ l
+  pub authenticated : Authenticate run A B k ts ta ∈ l
+  pub issued : Issue k A B ts run ∈ l
 
-partner-of : {l : Log} {A B k ts ta n i b ts′ : ℕ} → issue k A B ts n ∈ l → authenticate i A b k ts′ ta ∈ l → B ≡ b → ts ≡ ts′ → n ≡ i → Partner l A B k ts ta
+partner-of : {l : Log} {A B k ts ta n i b ts′ : ℕ} → Issue k A B ts n ∈ l → Authenticate i A b k ts′ ta ∈ l → B ≡ b → ts ≡ ts′ → n ≡ i → Partner l A B k ts ta
 partner-of {i = i} g h eb et en = record { run = i; authenticated = rw (eb, et) h; issued = rw (← en) g }
 
 pub find-partner : {R : Realm} {l : Log} {A B r k ts ta : ℕ}
     → Trace R l
     → Good R A
     → Good R B
-    → accept r A B k ts ta ∈ l
+    → Accept r A B k ts ta ∈ l
     → ¬ (Leaked l k)
     → Partner l A B k ts ta
 find-partner {k = k} w goodA goodB h unleaked =
@@ -65,13 +66,13 @@ find-partner {k = k} w goodA goodB h unleaked =
 -- ---- the clauses of the claim, at every point p of a log l with the acceptance and the partner in it
 
 module _ {R : Realm} {l : Log} (w : Trace R l) {A B r k ts ta : ℕ} (goodA : Good R A) (goodB : Good R B)
-    (accepted : accept r A B k ts ta ∈ l) (q : Partner l A B k ts ta) where
+    (accepted : Accept r A B k ts ta ∈ l) (q : Partner l A B k ts ta) where
   pub partner-only : {p : Log} → p ⊑ l → (i : ℕ) → Initiator p i A B → Has p i k ts ta → i ≡ q .run
   partner-only z i o (from4 h) = sym (taken-by w goodA goodB (q .issued) z (rw (authenticate-of (trace-at w z) h (of-initiator o)) at goodA) h)
   partner-only z i o (from5 h) = absurd (accept-apart (trace-at w z) h o)
 
   -- No initiator run of B took the key.
-  not-both : {p : Log} {i a b ts′ ta′ : ℕ} → p ⊑ l → B ≡ a → authenticate i a b k ts′ ta′ ∈ p → A ≡ B
+  not-both : {p : Log} {i a b ts′ ta′ : ℕ} → p ⊑ l → B ≡ a → Authenticate i a b k ts′ ta′ ∈ p → A ≡ B
   not-both z e h = same-issue w goodA goodB (q .issued) z refl (authenticate-issued (trace-at w z) (rw e at goodB) h) .0 ∙ sym e
 
   pub acceptor-only : {p : Log} → p ⊑ l → (i : ℕ) → RunOf p i B → Has p i k ts ta → i ≡ r
@@ -82,13 +83,13 @@ module _ {R : Realm} {l : Log} (w : Trace R l) {A B r k ts ta : ℕ} (goodA : Go
   key-secret p z unleaked d = fine R p (λ i. i ≡ k) (kept w goodA goodB (q .issued) z unleaked) d refl
 
   -- While the key has not leaked, only the accepting run takes it at step 5.
-  same-time : {p : Log} {i a b ts′ ta′ : ℕ} → p ⊑ l → q .run ≡ i → authenticate i a b k ts′ ta′ ∈ p → ta′ ≡ ta
+  same-time : {p : Log} {i a b ts′ ta′ : ℕ} → p ⊑ l → q .run ≡ i → Authenticate i a b k ts′ ta′ ∈ p → ta′ ≡ ta
   same-time z e h = authenticate-once w (in-later z (rw (← e) at h)) (q .authenticated)
 
-  same-run : {p : Log} {i a b ts′ ta′ : ℕ} → p ⊑ l → B ≡ b → ta′ ≡ ta → accept i a b k ts′ ta′ ∈ p → i ≡ r
+  same-run : {p : Log} {i a b ts′ ta′ : ℕ} → p ⊑ l → B ≡ b → ta′ ≡ ta → Accept i a b k ts′ ta′ ∈ p → i ≡ r
   same-run z eb et h = accept-once w (in-later z (rw (← eb, et) at h)) accepted
 
-  accepted-by : {p : Log} {i a b ts′ ta′ : ℕ} → p ⊑ l → ¬ (Leaked p k) → accept i a b k ts′ ta′ ∈ p → i ≡ r
+  accepted-by : {p : Log} {i a b ts′ ta′ : ℕ} → p ⊑ l → ¬ (Leaked p k) → Accept i a b k ts′ ta′ ∈ p → i ≡ r
   accepted-by z unleaked h =
       let v = trace-at w z in
       let safe = kept w goodA goodB (q .issued) z unleaked in

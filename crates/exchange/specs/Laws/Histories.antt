@@ -8,7 +8,8 @@ use mathlib.Core.List.{List, [], _∷_}
 use Rattle.exchange.specs.declared.call.Call.{Call}
 use Rattle.exchange.specs.Realm.{Realm, Header}
 use Rattle.exchange.specs.Lists.{_∈_, here, _⊑_, now, before, in-later}
-use Rattle.exchange.specs.Log.{accept, Log, clock}
+use Rattle.exchange.specs.declared.event.Event.the-variants.{Accept}
+use Rattle.exchange.specs.Log.{Log, clock}
 use Rattle.exchange.specs.Rules.{Takes, takes5}
 use Rattle.exchange.specs.Reading.{History, Reading, read, reading, log, accepts, eventOf}
 use Rattle.exchange.specs.Words.{Accepts, accepts5, opened3, from4}
@@ -41,7 +42,7 @@ trace-of (call {h = h} {c = c} {a = a} w f) = trace-read (accepts a) c (reading 
 
 -- ---- an acceptance
 
-accepted-in : {l : Log} {r a b k ts ta : ℕ} → Accepts l r a b k ts ta → accept r a b k ts ta ∈ l
+accepted-in : {l : Log} {r a b k ts ta : ℕ} → Accepts l r a b k ts ta → Accept r a b k ts ta ∈ l
 accepted-in accepts5 = here
 
 accepted-live : {R : Realm} {l : Log} {r a b k ts ta : ℕ} → Trace R l → Accepts l r a b k ts ta → (clock l < ts + R .ticketLife) × (clock l < ta + R .authLife)

@@ -4,7 +4,8 @@ use mathlib.Core.Logic.{_⊎_, inl, inr, _↔_}
 use mathlib.Core.List.{_∷_}
 use Rattle.terms.specs.Message.{Message}
 use Rattle.exchange.specs.Lists.{_∈_, here, there, _⊑_, in-later}
-use Rattle.exchange.specs.Log.{Event, Log, sends, OnWire, sent}
+use Rattle.exchange.specs.declared.event.Event.{Event}
+use Rattle.exchange.specs.Log.{Log, sends, OnWire, sent}
 
 pub wire-later : {p l : Log} → p ⊑ l → (m : Message) → OnWire p m → OnWire l m
 wire-later s m (sent i h) = sent (in-later s i) h

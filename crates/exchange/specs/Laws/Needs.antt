@@ -18,7 +18,8 @@ use Rattle.exchange.specs.declared.run.Row.{Row}
 use Rattle.exchange.specs.declared.need.Need.{Need}
 use Rattle.exchange.specs.declared.need.Need.the-variants.{Nothing, Of}
 use Rattle.exchange.specs.Realm.{Realm}
-use Rattle.exchange.specs.Log.{Event, Log, Run, initiatorOpened, initiatorAuthenticated, initiatorDone, responderOpened, responderDone, serverDone, run, stored}
+use Rattle.exchange.specs.declared.event.Event.{Event}
+use Rattle.exchange.specs.Log.{Log, Run, initiatorOpened, initiatorAuthenticated, initiatorDone, responderOpened, responderDone, serverDone, run, stored}
 use Rattle.exchange.specs.Rules.{Takes, takes1, takes2, takes3, takes4, takes5, takes6, takes7, takes8, takes9, takes10}
 use Rattle.exchange.specs.Needs.{needTable, needOf, roleNumber, stageNumber, isAt, meets}
 

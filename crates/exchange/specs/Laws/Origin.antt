@@ -12,7 +12,9 @@ use Rattle.deduction.specs.Derives.{Own, Bad}
 use Rattle.exchange.specs.Realm.{Realm, Good}
 use Rattle.exchange.specs.Lists.{_∈_, here, there}
 use Rattle.exchange.specs.Messages.{request, reply, ticket, authenticator, confirmation}
-use Rattle.exchange.specs.Log.{Event, initiate, issue, authenticate, accept, leak, Log, sends, OnWire, sent}
+use Rattle.exchange.specs.declared.event.Event.{Event}
+use Rattle.exchange.specs.declared.event.Event.the-variants.{Initiate, Issue, Authenticate, Accept, Leak}
+use Rattle.exchange.specs.Log.{Log, sends, OnWire, sent}
 use Rattle.exchange.specs.Rules.{Derivable}
 use Rattle.deduction.specs.Secrecy.{Guarded, guarded}
 
@@ -20,20 +22,20 @@ use Rattle.deduction.specs.Secrecy.{Guarded, guarded}
 
 -- `sends` turned round, for matching on the message.
 pub data Sends : Event → Message → Type 0 where
-  sends1 : {r a b : ℕ} → Sends (initiate r a b) (request a b r)
-  sends3-reply : {r a b ts n : ℕ} → Sends (issue r a b ts n) (reply r b ts n a)
-  sends3-ticket : {r a b ts n : ℕ} → Sends (issue r a b ts n) (ticket r a ts b)
-  sends4 : {r a b k ts ta : ℕ} → Sends (authenticate r a b k ts ta) (authenticator a ta k)
-  sends5 : {r a b k ts ta : ℕ} → Sends (accept r a b k ts ta) (confirmation ta k)
-  leaks : {r : ℕ} → Sends (leak r) (key (session r))
+  sends1 : {r a b : ℕ} → Sends (Initiate r a b) (request a b r)
+  sends3-reply : {r a b ts n : ℕ} → Sends (Issue r a b ts n) (reply r b ts n a)
+  sends3-ticket : {r a b ts n : ℕ} → Sends (Issue r a b ts n) (ticket r a ts b)
+  sends4 : {r a b k ts ta : ℕ} → Sends (Authenticate r a b k ts ta) (authenticator a ta k)
+  sends5 : {r a b k ts ta : ℕ} → Sends (Accept r a b k ts ta) (confirmation ta k)
+  leaks : {r : ℕ} → Sends (Leak r) (key (session r))
 
 which : (e : Event) {m : Message} → m ∈ sends e → Sends e m
-which (initiate r a b) here = sends1
-which (issue r a b ts n) here = sends3-reply
-which (issue r a b ts n) (there here) = sends3-ticket
-which (authenticate r a b k ts ta) here = sends4
-which (accept r a b k ts ta) here = sends5
-which (leak r) here = leaks
+which (Initiate r a b) here = sends1
+which (Issue r a b ts n) here = sends3-reply
+which (Issue r a b ts n) (there here) = sends3-ticket
+which (Authenticate r a b k ts ta) here = sends4
+which (Accept r a b k ts ta) here = sends5
+which (Leak r) here = leaks
 
 pub data Sent (l : Log) (m : Message) : Type 0 where
   by : {e : Event} → e ∈ l → Sends e m → Sent l m
@@ -41,13 +43,13 @@ pub data Sent (l : Log) (m : Message) : Type 0 where
 sender : {l : Log} {m : Message} → OnWire l m → Sent l m
 sender (sent {e = e} i h) = by i (which e h)
 
-pub sent-reply : {l : Log} {k b ts n a : ℕ} → Sent l (reply k b ts n a) → issue k a b ts n ∈ l
+pub sent-reply : {l : Log} {k b ts n a : ℕ} → Sent l (reply k b ts n a) → Issue k a b ts n ∈ l
 sent-reply (by i sends3-reply) = i
 
-pub sent-ticket : {l : Log} {k a ts b : ℕ} → Sent l (ticket k a ts b) → (n : ℕ) × (issue k a b ts n ∈ l)
+pub sent-ticket : {l : Log} {k a ts b : ℕ} → Sent l (ticket k a ts b) → (n : ℕ) × (Issue k a b ts n ∈ l)
 sent-ticket (by i sends3-ticket) = (_, i)
 
-pub sent-authenticator : {l : Log} {a ta k : ℕ} → Sent l (authenticator a ta k) → (r : ℕ) × (b : ℕ) × (ts : ℕ) × (authenticate r a b k ts ta ∈ l)
+pub sent-authenticator : {l : Log} {a ta k : ℕ} → Sent l (authenticator a ta k) → (r : ℕ) × (b : ℕ) × (ts : ℕ) × (Authenticate r a b k ts ta ∈ l)
 sent-authenticator (by i sends4) = (_, _, _, i)
 
 -- ---- the secret keys
@@ -69,8 +71,8 @@ Secret R X (session i) = X i
 pub record Safe (R : Realm) (l : Log) (X : ℕ → Type 0) : Type 0 where
   pub decide : (i : ℕ) → Dec (X i)
   pub notOwn : (i : ℕ) → Own i → ¬ (X i)
-  pub notLeaked : (i : ℕ) → leak i ∈ l → ¬ (X i)
-  pub issuedToGood : {i a b ts n : ℕ} → issue i a b ts n ∈ l → X i → Good R a × Good R b
+  pub notLeaked : (i : ℕ) → Leak i ∈ l → ¬ (X i)
+  pub issuedToGood : {i a b ts n : ℕ} → Issue i a b ts n ∈ l → X i → Good R a × Good R b
 
 -- ---- all that can be derived is guarded
 

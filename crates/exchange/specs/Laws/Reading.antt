@@ -6,7 +6,7 @@ use mathlib.Core.Option.{Option, some}
 use native.Mathlib.Decide.{ℕ-discrete}
 use Rattle.exchange.specs.declared.call.Call.{Call}
 use Rattle.exchange.specs.Realm.{Realm}
-use Rattle.exchange.specs.Log.{Event}
+use Rattle.exchange.specs.declared.event.Event.{Event}
 use Rattle.exchange.specs.Terms.{given}
 use Rattle.exchange.specs.Rules.{Takes, takes-term, takes1, takes2, takes3, takes4, takes5, takes6, takes7, takes8, takes9, takes10}
 use Rattle.exchange.specs.Reading.{Reading, eventOf}

@@ -11,7 +11,9 @@ use lib.Dec.{leb, eqb}
 use borrow.Author.Tests.{leb-true}
 use Rattle.exchange.specs.Realm.{Realm}
 use Rattle.exchange.specs.Lists.{_∈_, here, there}
-use Rattle.exchange.specs.Log.{Event, accept, Log, Entry, entry, keepUnless, forget, cache, clock}
+use Rattle.exchange.specs.declared.event.Event.{Event}
+use Rattle.exchange.specs.declared.event.Event.the-variants.{Accept}
+use Rattle.exchange.specs.Log.{Log, Entry, entry, keepUnless, forget, cache, clock}
 use Rattle.exchange.specs.Rules.{takes-term, takes1, takes2, takes3, takes4, takes5, takes6, takes7, takes8, takes9, takes10}
 use Rattle.exchange.specs.Laws.Trace.{Adds, refused, taken, Trace, add}
 
@@ -21,7 +23,7 @@ in-last : {x : Entry} (c : List Entry) → x ∈ (c ++ (x ∷ []))
 in-last [] = here
 in-last (y ∷ c) = there (in-last c)
 
-accept-remembers : (R : Realm) (l : Log) (r a b k ts ta : ℕ) → entry b k ta ∈ cache R (accept r a b k ts ta ∷ l)
+accept-remembers : (R : Realm) (l : Log) (r a b k ts ta : ℕ) → entry b k ta ∈ cache R (Accept r a b k ts ta ∷ l)
 accept-remembers R l r a b k ts ta = in-last (cache R l)
 
 in-append : {x : Entry} {c : List Entry} (d : List Entry) → x ∈ c → x ∈ (c ++ d)
@@ -71,18 +73,18 @@ stays b k ta (taken (takes8 p)) (inr o) = inr o
 stays b k ta (taken (takes9 e)) h = h
 stays b k ta (taken (takes10 d)) h = h
 
-remembered : {R : Realm} {l : Log} {r a b k ts ta : ℕ} → Trace R l → accept r a b k ts ta ∈ l → Remembered R l b k ta
+remembered : {R : Realm} {l : Log} {r a b k ts ta : ℕ} → Trace R l → Accept r a b k ts ta ∈ l → Remembered R l b k ta
 unfolding Remembered
 remembered {R} {r = r} {a = a} {b = b} {k = k} {ts = ts} {ta = ta} (add {l = l} w t) here = inl (accept-remembers R l r a b k ts ta)
 remembered (add w t) (there i) = stays _ _ _ t (remembered w i)
 
 -- ---- so step 5 takes none that was accepted before
 
-fresh : {R : Realm} {l : Log} {r a b k ts ta r′ a′ ts′ : ℕ} → Trace R l → Adds R l (accept r a b k ts ta) → accept r′ a′ b k ts′ ta ∈ l → ⊥
+fresh : {R : Realm} {l : Log} {r a b k ts ta r′ a′ ts′ : ℕ} → Trace R l → Adds R l (Accept r a b k ts ta) → Accept r′ a′ b k ts′ ta ∈ l → ⊥
 unfolding Remembered
 fresh w (taken (takes5 e d t u n s f)) i = ⊎-elim n (λ o. omega arith) (remembered w i)
 
-pub accept-once : {R : Realm} {l : Log} {r a b k ts ta r′ a′ ts′ : ℕ} → Trace R l → accept r a b k ts ta ∈ l → accept r′ a′ b k ts′ ta ∈ l → r ≡ r′
+pub accept-once : {R : Realm} {l : Log} {r a b k ts ta r′ a′ ts′ : ℕ} → Trace R l → Accept r a b k ts ta ∈ l → Accept r′ a′ b k ts′ ta ∈ l → r ≡ r′
 accept-once w here here = refl
 accept-once (add w t) here (there j) = absurd (fresh w t j)
 accept-once (add w t) (there i) here = absurd (fresh w t i)

@@ -11,7 +11,9 @@ use mathlib.Core.Option.{Option, none, some}
 use lib.ListN.{length, getElem?, set}
 use Rattle.exchange.specs.Realm.{Realm}
 use Rattle.exchange.specs.Lists.{_∈_, here, there}
-use Rattle.exchange.specs.Log.{Event, initiate, respond, issue, authenticate, accept, finish, Log}
+use Rattle.exchange.specs.declared.event.Event.{Event}
+use Rattle.exchange.specs.declared.event.Event.the-variants.{Initiate, Respond, Issue, Authenticate, Accept, Finish}
+use Rattle.exchange.specs.Log.{Log}
 use Rattle.exchange.specs.Log.{Run, initiatorOpened, initiatorAuthenticated, initiatorDone, responderOpened, responderDone, serverDone, runs, run}
 use Rattle.exchange.specs.Rules.{takes-term, takes1, takes2, takes3, takes4, takes5, takes6, takes7, takes8, takes9, takes10}
 use Rattle.exchange.specs.Laws.Trace.{Adds, refused, taken, Trace, start, add}
@@ -60,25 +62,25 @@ change-set t i y e = record { old = e; fresh = set-fresh t i _ y e; others = set
 
 -- The events of run r that its row tells: how it was opened, what it took, and that it is done.
 pub data Tells (r : ℕ) : Option Run → Event → Type 0 where
-  opened-initiate : {a b : ℕ} → Tells r (some (initiatorOpened a b)) (initiate r a b)
-  authenticated-initiate : {a b k ts ta : ℕ} → Tells r (some (initiatorAuthenticated a b k ts ta)) (initiate r a b)
-  authenticated : {a b k ts ta : ℕ} → Tells r (some (initiatorAuthenticated a b k ts ta)) (authenticate r a b k ts ta)
-  done-initiate : {a b k ts ta : ℕ} → Tells r (some (initiatorDone a b k ts ta)) (initiate r a b)
-  done-authenticate : {a b k ts ta : ℕ} → Tells r (some (initiatorDone a b k ts ta)) (authenticate r a b k ts ta)
-  done : {a b k ts ta : ℕ} → Tells r (some (initiatorDone a b k ts ta)) (finish r a b k ts ta)
-  opened-respond : {a b : ℕ} → Tells r (some (responderOpened a b)) (respond r a b)
-  accepted-respond : {a b k ts ta : ℕ} → Tells r (some (responderDone a b k ts ta)) (respond r a b)
-  accepted : {a b k ts ta : ℕ} → Tells r (some (responderDone a b k ts ta)) (accept r a b k ts ta)
-  issued : {a b ts n : ℕ} → Tells r (some (serverDone a b r ts n)) (issue r a b ts n)
+  opened-initiate : {a b : ℕ} → Tells r (some (initiatorOpened a b)) (Initiate r a b)
+  authenticated-initiate : {a b k ts ta : ℕ} → Tells r (some (initiatorAuthenticated a b k ts ta)) (Initiate r a b)
+  authenticated : {a b k ts ta : ℕ} → Tells r (some (initiatorAuthenticated a b k ts ta)) (Authenticate r a b k ts ta)
+  done-initiate : {a b k ts ta : ℕ} → Tells r (some (initiatorDone a b k ts ta)) (Initiate r a b)
+  done-authenticate : {a b k ts ta : ℕ} → Tells r (some (initiatorDone a b k ts ta)) (Authenticate r a b k ts ta)
+  done : {a b k ts ta : ℕ} → Tells r (some (initiatorDone a b k ts ta)) (Finish r a b k ts ta)
+  opened-respond : {a b : ℕ} → Tells r (some (responderOpened a b)) (Respond r a b)
+  accepted-respond : {a b k ts ta : ℕ} → Tells r (some (responderDone a b k ts ta)) (Respond r a b)
+  accepted : {a b k ts ta : ℕ} → Tells r (some (responderDone a b k ts ta)) (Accept r a b k ts ta)
+  issued : {a b ts n : ℕ} → Tells r (some (serverDone a b r ts n)) (Issue r a b ts n)
 
 -- The event e moves run i from the row x to the row y.
 data Moves : Event → ℕ → Option Run → Option Run → Type 0 where
-  opens1 : {i a b : ℕ} → Moves (initiate i a b) i none (some (initiatorOpened a b))
-  opens2 : {i a b : ℕ} → Moves (respond i a b) i none (some (responderOpened a b))
-  opens3 : {i a b ts n : ℕ} → Moves (issue i a b ts n) i none (some (serverDone a b i ts n))
-  goes4 : {i a b k ts ta : ℕ} → Moves (authenticate i a b k ts ta) i (some (initiatorOpened a b)) (some (initiatorAuthenticated a b k ts ta))
-  goes5 : {i a b k ts ta : ℕ} → Moves (accept i a b k ts ta) i (some (responderOpened a b)) (some (responderDone a b k ts ta))
-  goes6 : {i a b k ts ta : ℕ} → Moves (finish i a b k ts ta) i (some (initiatorAuthenticated a b k ts ta)) (some (initiatorDone a b k ts ta))
+  opens1 : {i a b : ℕ} → Moves (Initiate i a b) i none (some (initiatorOpened a b))
+  opens2 : {i a b : ℕ} → Moves (Respond i a b) i none (some (responderOpened a b))
+  opens3 : {i a b ts n : ℕ} → Moves (Issue i a b ts n) i none (some (serverDone a b i ts n))
+  goes4 : {i a b k ts ta : ℕ} → Moves (Authenticate i a b k ts ta) i (some (initiatorOpened a b)) (some (initiatorAuthenticated a b k ts ta))
+  goes5 : {i a b k ts ta : ℕ} → Moves (Accept i a b k ts ta) i (some (responderOpened a b)) (some (responderDone a b k ts ta))
+  goes6 : {i a b k ts ta : ℕ} → Moves (Finish i a b k ts ta) i (some (initiatorAuthenticated a b k ts ta)) (some (initiatorDone a b k ts ta))
 
 -- The new row tells what the old one told,
 keeps : {e f : Event} {i : ℕ} {x y : Option Run} → Moves e i x y → Tells i x f → Tells i y f

@@ -6,13 +6,15 @@ use Rattle.terms.specs.Message.{Message}
 use Rattle.exchange.specs.declared.call.Call.{Call}
 use Rattle.exchange.specs.Realm.{Realm, Header}
 use Rattle.exchange.specs.Lists.{_∈_, here, there, _⊑_, now, before}
-use Rattle.exchange.specs.Log.{Event, nothing, Log}
+use Rattle.exchange.specs.declared.event.Event.{Event}
+use Rattle.exchange.specs.declared.event.Event.the-variants.{Nothing}
+use Rattle.exchange.specs.Log.{Log}
 use Rattle.exchange.specs.Rules.{Takes, Derivable}
 use Rattle.exchange.specs.Laws.Log.{wire-later}
 use Rattle.deduction.specs.Secrecy.{derives-more}
 
 pub data Adds (R : Realm) (l : Log) : Event → Type 0 where
-  refused : Adds R l nothing
+  refused : Adds R l Nothing
   taken : {terms : List Message} {c : Call} {e : Event} → Takes R terms l c e → Adds R l e
 
 pub data Trace (R : Realm) : Log → Type 0 where
