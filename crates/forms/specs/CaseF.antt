@@ -3,7 +3,7 @@
 use mathlib.Core.List.{List, [], _∷_}
 use mathlib.Core.Path.{_≡_, refl}
 use Prim.Native.Nat.{ℕ}
-use Rattle.messages.specs.Draft.{draftMessage}
+use Rattle.drafts.specs.Draft.{draftMessage}
 use Rattle.messages.specs.Entered.{withWord, entered}
 use Rattle.terms.specs.Descend.{descend, layers}
 use Rattle.terms.specs.Message.{Message, principal, pair}

@@ -3,9 +3,9 @@
 -- Assumes nothing.
 use mathlib.Core.List.{List, [], _∷_}
 use Prim.Native.Nat.{ℕ, zero, suc}
-use Rattle.messages.specs.declared.draft.DraftKey.the-variants.{LongTerm, Session}
-use Rattle.messages.specs.declared.draft.Node.{Node}
-use Rattle.messages.specs.declared.draft.Node.the-variants.{Principal, Time, Nonce, Key, Pair, Encrypted}
+use Rattle.drafts.specs.declared.DraftKey.the-variants.{LongTerm, Session}
+use Rattle.drafts.specs.declared.Node.{Node}
+use Rattle.drafts.specs.declared.Node.the-variants.{Principal, Time, Nonce, Key, Pair, Encrypted}
 
 -- the first m places of a draft; what stands in the places left is not looked at
 abbrev pub places : ℕ → List Node → List Node
@@ -59,3 +59,10 @@ CONFIRMATION_ROOT = 1
 
 unfoldable pub confirmationDraft : (ta k : ℕ) → List Node
 confirmationDraft ta k = laid (Time ta ∷ Encrypted 0 (Session k) ∷ [])
+
+-- step 9 "leaks a server run's key"
+abbrev pub KEY_ROOT : ℕ
+KEY_ROOT = 0
+
+unfoldable pub keyDraft : ℕ → List Node
+keyDraft k = laid (Key (Session k) ∷ [])

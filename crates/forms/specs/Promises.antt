@@ -10,13 +10,12 @@ use mathlib.Core.Logic.{_↔_}
 use mathlib.Core.Path.{_≡_, refl, subst}
 use Prim.Native.Nat.{ℕ, _<_, _≤_}
 use borrow.Author.Tests.{lt-ltb, le-leb}
+use Rattle.drafts.specs.Draft.{draftMessage, draftFits, nodesFit}
+use Rattle.drafts.specs.Writes.{Writes, table-writes}
 use Rattle.exchange.specs.Messages.{request, reply, ticket, authenticator, confirmation}
-use Rattle.messages.specs.Draft.{draftMessage, draftFits, nodesFit}
-use Rattle.messages.specs.Standing.{Writes}
-use Rattle.messages.specs.Writes.{table-writes}
 use Rattle.terms.specs.Descend.{descend, layers}
 use Rattle.terms.specs.Meaning.{messageAt}
-use Rattle.terms.specs.Message.{Message, pair}
+use Rattle.terms.specs.Message.{session, Message, key, pair}
 use Rattle.terms.specs.Valid.{Valid}
 use Rattle.forms.specs.declared.open.Authenticator.the-variants as authenticators
 use Rattle.forms.specs.declared.open.Confirmation.the-variants as confirmations
@@ -24,8 +23,8 @@ use Rattle.forms.specs.declared.open.Delivery.the-variants as deliveries
 use Rattle.forms.specs.declared.open.Reply.the-variants as replies
 use Rattle.forms.specs.declared.open.Request.the-variants as requests
 use Rattle.forms.specs.declared.open.Ticket.the-variants as tickets
-use Rattle.forms.specs.Drafts.{REQUEST_ROOT, REPLY_ROOT, TICKET_ROOT, AUTHENTICATOR_ROOT, CONFIRMATION_ROOT}
-use Rattle.forms.specs.Drafts.{requestDraft, issueDraft, authenticatorDraft, confirmationDraft}
+use Rattle.forms.specs.Drafts.{REQUEST_ROOT, REPLY_ROOT, TICKET_ROOT, AUTHENTICATOR_ROOT, CONFIRMATION_ROOT, KEY_ROOT}
+use Rattle.forms.specs.Drafts.{requestDraft, issueDraft, authenticatorDraft, confirmationDraft, keyDraft}
 use Rattle.forms.specs.Forms.{requestIn, replyIn, ticketIn, authenticatorIn, deliveryIn, confirmationIn}
 use Rattle.forms.specs.Laws.Forms.{request-form, reply-form, ticket-form, authenticator-form, delivery-form, confirmation-form}
 use Rattle.forms.specs.Present.{Present}
@@ -84,6 +83,10 @@ module _ (stored : ℕ → Message) where
   unfolding confirmationDraft draftMessage descend layers
   confirmation-at ta k = refl
 
+  pub key-at : (k : ℕ) → draftMessage stored (keyDraft k) KEY_ROOT ≡ key (session k)
+  unfolding keyDraft draftMessage descend layers
+  key-at k = refl
+
 -- where the fields are in range, the draft can be added
 module _ (n count : ℕ) where
   pub request-fits : (a b i : ℕ) → a < n → b < n → i ≤ 95 → draftFits n count (requestDraft a b i) ≡ true
@@ -101,3 +104,7 @@ module _ (n count : ℕ) where
   pub confirmation-fits : (ta k : ℕ) → ta ≤ 4294967295 → k ≤ 95 → draftFits n count (confirmationDraft ta k) ≡ true
   unfolding confirmationDraft draftFits nodesFit
   confirmation-fits ta k t h = rw (le-leb ta 4294967295 t, le-leb k 95 h)
+
+  pub key-fits : (k : ℕ) → k ≤ 95 → draftFits n count (keyDraft k) ≡ true
+  unfolding keyDraft draftFits nodesFit
+  key-fits k h = rw (le-leb k 95 h)

@@ -1,10 +1,10 @@
 // The messages that steps send, laid out as drafts: a node for each term, in the order in which adding meets them, each
 // after its parts, left before right. A message is written at the place that its constant names.
-use messages::draft::DraftKey;
-use messages::draft::NODES;
-use messages::draft::Node;
+use drafts::DraftKey;
+use drafts::NODES;
+use drafts::Node;
 ghost use mathlib.Core.Path.{_≡_};
-ghost use Rattle.forms.specs.Drafts.{requestDraft, issueDraft, authenticatorDraft, confirmationDraft};
+ghost use Rattle.forms.specs.Drafts.{requestDraft, issueDraft, authenticatorDraft, confirmationDraft, keyDraft};
 
 // What stands in the places left.
 const BLANK: Node = Node::Time(0);
@@ -19,6 +19,8 @@ pub const TICKET_ROOT: usize = 11;
 pub const AUTHENTICATOR_ROOT: usize = 3;
 
 pub const CONFIRMATION_ROOT: usize = 1;
+
+pub const KEY_ROOT: usize = 0;
 
 // Step 1: [a, b, nonce n].
 pub fn lay_request(a: u16, b: u16, n: u16) -> [Node; 16]
@@ -72,5 +74,14 @@ pub fn lay_confirmation(ta: u32, k: u16) -> [Node; 16]
     let mut draft = [BLANK; NODES];
     draft[0] = Node::Time(ta);
     draft[CONFIRMATION_ROOT] = Node::Encrypted(0, DraftKey::Session(k));
+    draft
+}
+
+// Step 9: a session key.
+pub fn lay_key(k: u16) -> [Node; 16]
+    ensures { λ r. ⌜ r ≡ keyDraft k ⌝ }
+{
+    let mut draft = [BLANK; NODES];
+    draft[KEY_ROOT] = Node::Key(DraftKey::Session(k));
     draft
 }

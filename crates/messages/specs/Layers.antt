@@ -10,20 +10,20 @@ use native.Mathlib.Omega.{arith}
 use borrow.Author.Tests.{ltb-true}
 use lib.Dec.{ltb}
 use lib.ListN.{length, getD, take, set, length-append, length-take}
-use Rattle.messages.specs.declared.draft.DraftKey.{DraftKey}
-use Rattle.messages.specs.declared.draft.DraftKey.the-variants.{LongTerm, Session}
-use Rattle.messages.specs.declared.draft.Layer.{Layer}
-use Rattle.messages.specs.declared.draft.Layer.the-variants as layer
-use Rattle.messages.specs.declared.draft.Node.{Node}
-use Rattle.messages.specs.declared.draft.Node.the-variants as node
+use Rattle.drafts.specs.declared.DraftKey.{DraftKey}
+use Rattle.drafts.specs.declared.DraftKey.the-variants.{LongTerm, Session}
+use Rattle.drafts.specs.declared.Layer.{Layer}
+use Rattle.drafts.specs.declared.Layer.the-variants as layer
+use Rattle.drafts.specs.declared.Node.{Node}
+use Rattle.drafts.specs.declared.Node.the-variants as node
 use Rattle.messages.specs.declared.plan.Plan.{Plan}
 use Rattle.words.specs.declared.Term.the-variants.{Pair, Encrypted}
+use Rattle.drafts.specs.Draft.{keyName, nodeMessage, nodeFits, keyFits, layerOf, wordOfKey}
 use Rattle.terms.specs.Choice.{both-true}
 use Rattle.terms.specs.Message.{Key, Message, key, pair, encrypted}
 use Rattle.terms.specs.Number.{keyWord, wordIn, numberIn}
 use Rattle.terms.specs.Valid.{Terms}
 use Rattle.words.specs.Word.{wordOf}
-use Rattle.messages.specs.Draft.{keyName, nodeMessage, nodeFits, keyFits, layerOf, wordOfKey}
 use Rattle.messages.specs.Entered.{withWord, entered}
 use Rattle.messages.specs.Plan.{known, noted, NoteIs}
 use Rattle.messages.specs.Standing.{Standing, EnteredIs, Longer, standing-longer, standing-number}

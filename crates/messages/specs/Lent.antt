@@ -9,17 +9,17 @@ use native.Mathlib.Omega.{arith}
 use borrow.Author.Tests.{le-leb, lt-leb, lt-ltb, le-ltb}
 use lib.Dec.{ltb, leb}
 use lib.ListN.{length, take, drop}
-use Rattle.messages.specs.declared.draft.Node.{Node}
+use Rattle.drafts.specs.declared.Node.{Node}
 use Rattle.messages.specs.declared.lent.Stored.{Stored}
 use Rattle.messages.specs.declared.lent.Stored.the-variants.{At, Refused}
 use Rattle.messages.specs.declared.plan.Plan.{Plan}
+use Rattle.drafts.specs.Draft.{draftMessage, draftFits}
 use Rattle.terms.specs.Choice.{pick, both}
 use Rattle.terms.specs.Meaning.{messageAt}
 use Rattle.terms.specs.Message.{Message}
 use Rattle.terms.specs.Number.{numberIn, termsOf, terms-list}
 use Rattle.terms.specs.Outcome.{Outcome, accept, refuse}
 use Rattle.terms.specs.Valid.{holds, holds-valid}
-use Rattle.messages.specs.Draft.{draftMessage, draftFits}
 use Rattle.messages.specs.Entered.{entered}
 use Rattle.messages.specs.Plan.{known, drafted, Fresh, Ready, NodePlanned, written, known-length}
 
@@ -48,7 +48,7 @@ addMessageOf n ts count draft root =
 
 -- ---- the start of a plan
 
-known-fresh : (ts : List ℕ) (count : ℕ) {p : Plan} → Fresh p → known ts count p ≡ termsOf ts count
+pub known-fresh : (ts : List ℕ) (count : ℕ) {p : Plan} → Fresh p → known ts count p ≡ termsOf ts count
 known-fresh ts count {p} f = ap (λ (k : ℕ). take count ts ++ take k (p .words)) (f .empty) ∙ append-nil (take count ts)
 
 pub start-ready : {n : ℕ} {ts : List ℕ} {count : ℕ} {draft : List Node} {p : Plan} → n ≤ 65536 → holds n ts count ≡ true → draftFits n count draft ≡ true

@@ -3,8 +3,6 @@ pub mod Entered
 pub mod Standing
 pub mod Listed
 pub mod Meanings
-pub mod Draft
-pub mod Writes
 pub mod Plan
 pub mod Layers
 pub mod Planning

@@ -11,6 +11,7 @@ use native.Mathlib.Omega.{arith}
 use lib.ListN.{length, getD, length-append, List·getD-append}
 use Rattle.terms.specs.declared.table.Found.{Found}
 use Rattle.terms.specs.declared.table.Found.the-variants.{At, Nothing}
+use Rattle.drafts.specs.Writes.{Writes}
 use Rattle.terms.specs.Meaning.{messageAt, messages-same}
 use Rattle.terms.specs.Message.{Message, principal, time, nonce, key, pair, encrypted}
 use Rattle.terms.specs.Number.{wordIn, word-at}
@@ -19,7 +20,7 @@ use Rattle.terms.specs.Table.{findOf, found-at}
 use Rattle.terms.specs.Valid.{Terms}
 use Rattle.messages.specs.Entered.{withBy, withWord, withTerm, entered}
 use Rattle.messages.specs.Listed.{termAt, insert, add, insert-present, insert-new}
-use Rattle.messages.specs.Standing.{Standing, Writes, EnteredIs, entered-is, key-entered, pair-entered, encrypted-entered, longer-with, longer-entered, standing-longer}
+use Rattle.messages.specs.Standing.{Standing, EnteredIs, entered-is, key-entered, pair-entered, encrypted-entered, longer-with, longer-entered, standing-longer}
 
 -- the messages of the first `count` terms
 unfoldable pub meanings : List ℕ → (count : ℕ) → List Message

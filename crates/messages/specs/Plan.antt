@@ -11,16 +11,16 @@ use native.Mathlib.Omega.{arith}
 use borrow.Author.Tests.{eq-eqb}
 use lib.ListN.{length, getD, take, drop, set, length-append, List·getD-append}
 use lib.Seq.{length-take-le, getD-take, getD-append-seam, take-suc-set}
-use Rattle.messages.specs.declared.draft.Node.{Node}
+use Rattle.drafts.specs.declared.Node.{Node}
 use Rattle.messages.specs.declared.plan.Plan.{Plan}
 use Rattle.terms.specs.declared.table.Found.{Found}
 use Rattle.terms.specs.declared.table.Found.the-variants.{At, Nothing}
+use Rattle.drafts.specs.Draft.{draftMessage, draftFits}
 use Rattle.terms.specs.Meaning.{messageAt}
 use Rattle.terms.specs.Message.{Message}
 use Rattle.terms.specs.Number.{place, placeBy, numberIn}
 use Rattle.terms.specs.Table.{findOf, behind, find-append, find-same}
 use Rattle.terms.specs.Valid.{Terms, Valid}
-use Rattle.messages.specs.Draft.{draftMessage, draftFits}
 use Rattle.messages.specs.Entered.{withBy, withWord, entered}
 use Rattle.messages.specs.Standing.{Standing}
 

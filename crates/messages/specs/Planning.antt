@@ -9,26 +9,26 @@ use native.Mathlib.Numerals.{add-one}
 use native.Mathlib.Omega.{arith}
 use lib.ListN.{length, getD, take, set, length-append, length-set, List·getD-append}
 use lib.Seq.{length-take-le, getD-take, getD-set-same, getD-set-other}
-use Rattle.messages.specs.declared.draft.Layer.{Layer}
-use Rattle.messages.specs.declared.draft.Layer.the-variants as layer
-use Rattle.messages.specs.declared.draft.Node.{Node}
-use Rattle.messages.specs.declared.draft.Node.the-variants as node
+use Rattle.drafts.specs.declared.Layer.{Layer}
+use Rattle.drafts.specs.declared.Layer.the-variants as layer
+use Rattle.drafts.specs.declared.Node.{Node}
+use Rattle.drafts.specs.declared.Node.the-variants as node
 use Rattle.messages.specs.declared.plan.Plan.{Plan}
 use Rattle.terms.specs.declared.table.Found.{Found}
 use Rattle.terms.specs.declared.table.Found.the-variants.{At, Nothing}
 use Rattle.words.specs.declared.Term.the-variants.{Pair, Encrypted}
+use Rattle.drafts.specs.Draft.{nodeAt, layerOf, fits-at, draft-at}
+use Rattle.drafts.specs.Writes.{KeyFits, Writes, draft-writes}
 use Rattle.terms.specs.Meaning.{messageAt, messages-same}
 use Rattle.terms.specs.Message.{Key, Message, key, pair, encrypted}
 use Rattle.terms.specs.Number.{place, placeBy, keyWord, wordIn, numberIn}
 use Rattle.terms.specs.Table.{findOf, FoundIs, found-is}
 use Rattle.terms.specs.Valid.{Terms}
 use Rattle.words.specs.Word.{wordOf}
-use Rattle.messages.specs.Draft.{nodeAt, layerOf, fits-at, draft-at}
 use Rattle.messages.specs.Entered.{withWord, withTerm, entered}
 use Rattle.messages.specs.Layers.{noted-le, noted-room, noted-set, note-longer, known-small, at-number, Atomic, LayerIs, layer-is, pair-word, encrypted-word}
 use Rattle.messages.specs.Plan.{known, drafted, NoteIs, Ready, WordPlanned, NodePlanned, withNote}
-use Rattle.messages.specs.Standing.{Standing, EnteredIs, Longer, longer-trans, longer-with, longer-entered, standing-longer, standing-number, key-entered, entered-is, entered-present, KeyFits, Writes}
-use Rattle.messages.specs.Writes.{draft-writes}
+use Rattle.messages.specs.Standing.{Standing, EnteredIs, Longer, longer-trans, longer-with, longer-entered, standing-longer, standing-number, key-entered, entered-is, entered-present}
 
 -- ---- a plan that is ready
 

@@ -1,6 +1,7 @@
 -- What the crate promises beside the contracts of its functions: what holds of the table after a message was added. The
 -- contract of `add_message` gives the answer and every place of the table; these laws say what they mean. Reading order of
--- the definitions: Entered (on words), Listed and Meanings (on messages), Draft, Lent.
+-- the definitions: Entered (on words), Listed and Meanings (on messages), Lent. What a draft stands for is defined in the
+-- crate `drafts`.
 -- Assumes nothing.
 use mathlib.Core.Path.{_≡_, refl, sym, ap, _∙_}
 use mathlib.Core.Bool.{Bool, true, false}
@@ -11,7 +12,9 @@ use borrow.Author.Tests.{leb-true, ltb-true}
 use lib.Dec.{ltb, leb}
 use lib.ListN.{length, drop, length-append, length-drop, List·getD-append}
 use lib.Seq.{drop-append-seam}
-use Rattle.messages.specs.declared.draft.Node.{Node}
+use Rattle.drafts.specs.declared.Node.{Node}
+use Rattle.drafts.specs.Draft.{draftMessage, draftFits}
+use Rattle.drafts.specs.Writes.{Writes, draft-writes}
 use Rattle.terms.specs.Choice.{pick, both, both-true}
 use Rattle.terms.specs.Meaning.{messageAt, messages-same}
 use Rattle.terms.specs.Message.{Message}
@@ -19,13 +22,11 @@ use Rattle.terms.specs.Number.{numberIn, termsOf, terms-length, terms-agree, te
 use Rattle.terms.specs.Outcome.{Outcome, accept, refuse}
 use Rattle.terms.specs.Rules.{Agree}
 use Rattle.terms.specs.Valid.{Terms, Valid, holds, holds-valid, terms-same}
-use Rattle.messages.specs.Draft.{draftMessage, draftFits}
 use Rattle.messages.specs.Entered.{entered}
 use Rattle.messages.specs.Lent.{over, addMessageOf}
 use Rattle.messages.specs.Listed.{add}
 use Rattle.messages.specs.Meanings.{meanings, meanings-entered}
-use Rattle.messages.specs.Standing.{Writes, entered-is, standing-number}
-use Rattle.messages.specs.Writes.{draft-writes}
+use Rattle.messages.specs.Standing.{entered-is, standing-number}
 
 -- a message m was added to a table ts of `count` terms; its number is i, and ts′ has `count′` terms
 pub record MessageAdded (n : ℕ) (ts : List ℕ) (count : ℕ) (m : Message) (i count′ : ℕ) (ts′ : List ℕ) : Type 0 where
@@ -78,10 +79,10 @@ accepted false b c x y k i m us ts vs e = never 10 k i m ts vs e
 -- ---- the terms laid over the table
 
 module _ {n : ℕ} (ts : List ℕ) {xs : List ℕ} (v : Terms n xs (length xs)) (size : length ts ≡ 512) (room : length xs ≤ 512) where
-  over-agree : Agree xs (over xs ts) (length xs)
+  pub over-agree : Agree xs (over xs ts) (length xs)
   over-agree k h = sym (List·getD-append xs (drop (length xs) ts) 0 k h)
 
-  over-valid : Valid n (over xs ts) (length xs)
+  pub over-valid : Valid n (over xs ts) (length xs)
   over-valid =
       record {
         size = length-append xs (drop (length xs) ts) ∙ omega (arith, length-drop (length xs) ts);

@@ -3,7 +3,7 @@
 -- Assumes nothing.
 use mathlib.Core.Path.{_≡_, refl, sym, ap, ap₂, _∙_, subst}
 use mathlib.Core.List.{List, [], _∷_, _++_}
-use Prim.Native.Nat.{ℕ, suc, _+_, _^_, _<_, _≤_}
+use Prim.Native.Nat.{ℕ, suc, _+_, _<_, _≤_}
 use native.Mathlib.Nat.{le-refl}
 use native.Mathlib.Numerals.{add-one}
 use native.Mathlib.Omega.{arith}
@@ -13,6 +13,7 @@ use Rattle.terms.specs.declared.table.Found.{Found}
 use Rattle.terms.specs.declared.table.Found.the-variants.{At, Nothing}
 use Rattle.words.specs.declared.Term.{Term}
 use Rattle.words.specs.declared.Term.the-variants.{Principal, Time, Nonce, LongTermKey, SessionKey, Pair, Encrypted, Unknown}
+use Rattle.drafts.specs.Writes.{KeyFits, Writes}
 use Rattle.terms.specs.Add.{Extends, extends-refl, extends-trans, extends-by}
 use Rattle.terms.specs.Meaning.{keyOf, messageOf, messageAt, message-at, messages-same, key-at, key-inv, pair-inv, encrypted-inv}
 use Rattle.terms.specs.Message.{Key, longTerm, session, Message, principal, time, nonce, key, pair, encrypted}
@@ -29,19 +30,6 @@ use Rattle.messages.specs.Entered.{withBy, withWord, withTerm, entered}
 pub record Standing (xs : List ℕ) (m : Message) (i : ℕ) : Type 0 where
   pub below : i < length xs
   pub means : messageAt xs i ≡ m
-
--- the fields of a message are those that the rules let pass, in a realm of n principals
-abbrev pub KeyFits : ℕ → Key → Type 0
-KeyFits n (longTerm p) = p < n
-KeyFits n (session i) = i ≤ 95
-
-abbrev pub Writes : ℕ → Message → Type 0
-Writes n (principal p) = p < n
-Writes n (time t) = t < 2 ^ 32
-Writes n (nonce i) = i ≤ 95
-Writes n (key k) = KeyFits n k
-Writes n (pair a b) = Writes n a × Writes n b
-Writes n (encrypted m k) = Writes n m × KeyFits n k
 
 -- the terms ys are those of xs and more, among them the message m
 pub record EnteredIs (n : ℕ) (xs ys : List ℕ) (m : Message) : Type 0 where

@@ -1,11 +1,11 @@
 // The public call on a lent term table: any slice, any numbers, any draft, nothing required. A refused call leaves every
 // place as it was.
-use super::draft::NODES;
-use super::draft::Node;
-use super::draft::draft_fits;
 use super::plan::fresh;
 use super::plan::plan_node;
 use super::plan::write_plan;
+use drafts::NODES;
+use drafts::Node;
+use drafts::draft_fits;
 use terms::lent::holds_together;
 use terms::rules::REFUSE_FULL;
 use terms::rules::REFUSE_RANGE;

@@ -1,4 +1,3 @@
 // Whole messages, added to the term table all or nothing.
-pub mod draft;
 pub mod lent;
 pub mod plan;

@@ -1,7 +1,7 @@
 // Which words adding a message puts into the term table. They are all known before the first is written.
-use super::draft::Layer;
-use super::draft::Node;
-use super::draft::layer_of;
+use drafts::Layer;
+use drafts::Node;
+use drafts::layer_of;
 use terms::table::Found;
 use terms::table::find;
 use words::pack;

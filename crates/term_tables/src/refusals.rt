@@ -3,7 +3,7 @@ use super::show::write_added;
 use super::show::write_changes;
 use super::show::write_lookup;
 use super::show::write_stored;
-use messages::draft::Node;
+use drafts::Node;
 use messages::lent::add_message;
 use terms::lent::add_term;
 use terms::lent::find_term;

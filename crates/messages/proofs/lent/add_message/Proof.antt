@@ -5,8 +5,8 @@ use Prim.Native.Nat.{_<_, _≤_}
 use native.Mathlib.Omega.{arith}
 use borrow.Author.Tests.{not-true, not-false}
 use lib.ListN.{length}
+use Rattle.drafts.specs.Draft.{draftFits}
 use Rattle.terms.specs.Valid.{holds, holds-valid}
-use Rattle.messages.specs.Draft.{draftFits}
 use Rattle.messages.specs.Lent.{start-ready, bad-tables, bad-root, bad-draft, too-many, all-fit}
 use Rattle.messages.specs.Planning.{few}
 use borrow.Author.Needs.{needs}

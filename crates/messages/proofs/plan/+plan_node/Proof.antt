@@ -8,17 +8,17 @@ use borrow.Author.Needs.{needs}
 use borrow.Fn.Kinds.{In}
 use borrow.Fn.PlainCycle.{Measures, is, falls, and}
 use Rattle.words.specs.declared.Term.the-variants.{Pair, Encrypted}
+use Rattle.drafts.specs.Draft.{nodeAt, layerOf}
 use Rattle.words.specs.Word.{wordOf}
-use Rattle.messages.specs.declared.draft.Layer.{Layer}
-use Rattle.messages.specs.Draft.{nodeAt, layerOf}
-use Rattle.messages.specs.declared.draft.Node.{Node}
+use Rattle.drafts.specs.declared.Layer.{Layer}
+use Rattle.drafts.specs.declared.Node.{Node}
 use Rattle.messages.specs.declared.plan.Plan.{Plan}
 use Rattle.messages.specs.Plan.{Ready, WordPlanned, NodePlanned}
 use Rattle.messages.specs.Planning.{node-seen, node-stored, node-atom, node-pair, node-encrypted, pair-below, pair-room, body-below, body-room, room-left, number-small}
 use Rattle.messages.proofs.plan.plan_node.Reads as plan-node
 use Rattle.messages.proofs.plan.plan_node.Kinds as plan-node-kinds
 use Rattle.messages.proofs.plan.+plan_node.Lts-plan_node as plan-node-lts
-use Rattle.messages.proofs.draft.layer_of.Reads as layer-of-reads
+use Rattle.drafts.proofs.layer_of.Reads as layer-of-reads
 use Rattle.messages.proofs.plan.note.Reads as note-reads
 use Rattle.messages.proofs.plan.plan_word.Reads as plan-word-reads
 use Rattle.words.proofs.pack.Reads as pack-reads

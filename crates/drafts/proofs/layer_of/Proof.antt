@@ -1,10 +1,10 @@
--- `messages::draft::layer_of` meets its contract, case by case. Assumes nothing.
+-- `drafts::layer_of` meets its contract, case by case. Assumes nothing.
 use mathlib.Core.Path.{ap}
-use Rattle.messages.specs.declared.draft.Layer.the-variants as layers
+use Rattle.drafts.specs.declared.Layer.the-variants as layers
 use Prim.Native.Nat.{ℕ}
 use borrow.Author.Needs.{needs}
-use Rattle.messages.proofs.draft.layer_of.Statement.{statement}
-use Rattle.messages.proofs.draft.layer_of.Tie as tie
+use Rattle.drafts.proofs.layer_of.Statement.{statement}
+use Rattle.drafts.proofs.layer_of.Tie as tie
 
 enum-known-node : tie.Need-enum-known-node
 enum-known-node c = search needs

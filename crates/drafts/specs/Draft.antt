@@ -11,12 +11,12 @@ use native.Mathlib.Numerals.{add-one}
 use borrow.Author.Tests.{ltb-true}
 use lib.Dec.{ltb, leb}
 use lib.ListN.{getD}
-use Rattle.messages.specs.declared.draft.DraftKey.{DraftKey}
-use Rattle.messages.specs.declared.draft.DraftKey.the-variants.{LongTerm, Session}
-use Rattle.messages.specs.declared.draft.Layer.{Layer}
-use Rattle.messages.specs.declared.draft.Layer.the-variants as layer
-use Rattle.messages.specs.declared.draft.Node.{Node}
-use Rattle.messages.specs.declared.draft.Node.the-variants as node
+use Rattle.drafts.specs.declared.DraftKey.{DraftKey}
+use Rattle.drafts.specs.declared.DraftKey.the-variants.{LongTerm, Session}
+use Rattle.drafts.specs.declared.Layer.{Layer}
+use Rattle.drafts.specs.declared.Layer.the-variants as layer
+use Rattle.drafts.specs.declared.Node.{Node}
+use Rattle.drafts.specs.declared.Node.the-variants as node
 use Rattle.words.specs.declared.Term.the-variants.{Principal, Time, Nonce, LongTermKey, SessionKey}
 use Rattle.terms.specs.Choice.{both, both-true, true-both}
 use Rattle.terms.specs.Descend.{descend, descend-at}

@@ -1,4 +1,4 @@
--- `messages::draft::draft_fits` meets its contract. The invariant: the nodes passed fit. Assumes nothing.
+-- `drafts::draft_fits` meets its contract. The invariant: the nodes passed fit. Assumes nothing.
 use borrow.Author.Needs.{needs}
 use borrow.Author.Tests.{not-true, not-false}
 use mathlib.Core.Bool.{true}
@@ -6,9 +6,9 @@ use mathlib.Core.Path.{_≡_, sym, ap, _∙_}
 use native.Mathlib.Omega.{arith}
 use Prim.Native.Nat.{_≤_, _-_}
 use Rattle.terms.specs.Choice.{is-false, no-true}
-use Rattle.messages.specs.Draft.{nodesFit, fits-at, fits-none, fits-more, fits-all}
-use Rattle.messages.proofs.draft.draft_fits.Statement.{statement}
-use Rattle.messages.proofs.draft.draft_fits.Tie as tie
+use Rattle.drafts.specs.Draft.{nodesFit, fits-at, fits-none, fits-more, fits-all}
+use Rattle.drafts.proofs.draft_fits.Statement.{statement}
+use Rattle.drafts.proofs.draft_fits.Tie as tie
 
 abbrev Inv-loop : tie.InvT-loop
 Inv-loop n count draft k₀ k = (k ≤ 16) × (nodesFit n count draft k ≡ true)

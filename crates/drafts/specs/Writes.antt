@@ -1,27 +1,42 @@
--- Every message of a table that keeps the rules, and every message of a draft that fits, has its fields in range.
+-- Which messages can be written in a realm of n principals: those whose fields are in range. Every message of a table that
+-- keeps the rules is one, and every message of a draft that fits.
 -- Assumes nothing.
 use mathlib.Core.Path.{_≡_, sym, subst}
 use mathlib.Core.Bool.{true}
 use mathlib.Core.List.{List}
-use Prim.Native.Nat.{ℕ, zero, suc, _<_, _≤_}
+use Prim.Native.Nat.{ℕ, zero, suc, _^_, _<_, _≤_}
 use native.Mathlib.Omega.{arith}
 use borrow.Author.Tests.{ltb-true, leb-true}
 use lib.Dec.{ltb}
 use lib.ListN.{getD}
-use Rattle.messages.specs.declared.draft.DraftKey.{DraftKey}
-use Rattle.messages.specs.declared.draft.DraftKey.the-variants.{LongTerm, Session}
-use Rattle.messages.specs.declared.draft.Node.{Node}
-use Rattle.messages.specs.declared.draft.Node.the-variants as node
+use Rattle.drafts.specs.declared.DraftKey.{DraftKey}
+use Rattle.drafts.specs.declared.DraftKey.the-variants.{LongTerm, Session}
+use Rattle.drafts.specs.declared.Node.{Node}
+use Rattle.drafts.specs.declared.Node.the-variants as node
 use Rattle.words.specs.declared.Term.{Term}
 use Rattle.words.specs.declared.Term.the-variants.{Principal, Time, Nonce, LongTermKey, SessionKey, Pair, Encrypted, Unknown}
 use Rattle.terms.specs.Choice.{both-true}
 use Rattle.terms.specs.Meaning.{keyOf, messageOf, messageAt, message-at, key-at}
-use Rattle.terms.specs.Message.{Message}
+use Rattle.terms.specs.Message.{Key, longTerm, session, Message, principal, time, nonce, key, pair, encrypted}
 use Rattle.terms.specs.Rules.{termAt, isKey, Fields}
 use Rattle.terms.specs.Valid.{Terms, Valid, fields-at}
 use Rattle.words.specs.Word.{TimeFits, time-fits}
-use Rattle.messages.specs.Draft.{keyName, keyFits, nodeMessage, nodeAt, nodeFits, draftMessage, draftFits, fits-at, draft-at}
-use Rattle.messages.specs.Standing.{KeyFits, Writes}
+use Rattle.drafts.specs.Draft.{keyName, keyFits, nodeMessage, nodeAt, nodeFits, draftMessage, draftFits, fits-at, draft-at}
+
+-- ---- definitions
+
+-- the fields of a message are those that the rules let pass, in a realm of n principals
+abbrev pub KeyFits : ℕ → Key → Type 0
+KeyFits n (longTerm p) = p < n
+KeyFits n (session i) = i ≤ 95
+
+abbrev pub Writes : ℕ → Message → Type 0
+Writes n (principal p) = p < n
+Writes n (time t) = t < 2 ^ 32
+Writes n (nonce i) = i ≤ 95
+Writes n (key k) = KeyFits n k
+Writes n (pair a b) = Writes n a × Writes n b
+Writes n (encrypted m k) = Writes n m × KeyFits n k
 
 -- ---- of a table
 

@@ -4,7 +4,7 @@ use terms::rules::LAST_NUMBER;
 use words::Term;
 use words::encode;
 ghost use mathlib.Core.Path.{_≡_};
-ghost use Rattle.messages.specs.Draft.{keyFits, nodeFits, draftFits, wordOfKey, layerOf};
+ghost use Rattle.drafts.specs.Draft.{keyFits, nodeFits, draftFits, wordOfKey, layerOf};
 
 pub enum DraftKey {
     LongTerm(u16),

@@ -1,8 +1,8 @@
--- `messages::draft::node_fits` meets its contract, case by case. Assumes nothing.
+-- `drafts::node_fits` meets its contract, case by case. Assumes nothing.
 use borrow.Author.Tests.{lt-ltb, le-ltb}
 use borrow.Author.Needs.{needs}
-use Rattle.messages.proofs.draft.node_fits.Statement.{statement}
-use Rattle.messages.proofs.draft.node_fits.Tie as tie
+use Rattle.drafts.proofs.node_fits.Statement.{statement}
+use Rattle.drafts.proofs.node_fits.Tie as tie
 
 enum-known-node : tie.Need-enum-known-node
 enum-known-node c = search needs

@@ -1,7 +1,7 @@
--- `messages::draft::key_fits` meets its contract, case by case. Assumes nothing.
+-- `drafts::key_fits` meets its contract, case by case. Assumes nothing.
 use borrow.Author.Needs.{needs}
-use Rattle.messages.proofs.draft.key_fits.Statement.{statement}
-use Rattle.messages.proofs.draft.key_fits.Tie as tie
+use Rattle.drafts.proofs.key_fits.Statement.{statement}
+use Rattle.drafts.proofs.key_fits.Tie as tie
 
 enum-known-key : tie.Need-enum-known-key
 enum-known-key c = search needs

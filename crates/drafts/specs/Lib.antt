@@ -1,0 +1,4 @@
+-- Drafts of messages. Promises is to be read first.
+pub mod Promises
+pub mod Draft
+pub mod Writes
