@@ -11,7 +11,7 @@ use Rattle.marks.specs.Grown.{Grown, grown-refl, grown-trans, grown-with}
 use Rattle.marks.specs.Marks.{Words, marked, withMark, marked-new}
 use Rattle.words.specs.declared.Term.{Term}
 use Rattle.words.specs.declared.Term.the-variants.{Principal, Time, Nonce, LongTermKey, SessionKey, Pair, Encrypted, Unknown}
-use Rattle.terms.specs.Choice.{no-true}
+use Rattle.terms.specs.Choice.{Decides, proved, refuted, no-true}
 use Rattle.terms.specs.Meaning.{keyOf, messageOf, messageAt, message-at, key-at}
 use Rattle.terms.specs.Message.{Message, key}
 use Rattle.terms.specs.Rules.{termAt, isKey, Fields}
@@ -36,12 +36,15 @@ operandsOf (Pair l r) = Two l r
 operandsOf (Encrypted b k) = Two b k
 operandsOf Unknown = Atom
 
+-- term t can be put together from the terms of the set ws
+abbrev pub Composable : (n flags : ℕ) (ts : List ℕ) (count : ℕ) (ws : List ℕ) (t : ℕ) → Type 0
+Composable n flags ts count ws t = Synth n flags (Known ts count ws) (messageAt ts t)
+
 -- the answer ok on term t, and the set that came back
 pub record ComposedIs (n flags : ℕ) (ts : List ℕ) (count : ℕ) (ws : List ℕ) (t : ℕ) (ok : Bool) (ws′ : List ℕ) : Type 0 where
   pub grown : Grown 8 ws ws′
-  pub only : (k : ℕ) → k < count → marked ws′ k ≡ true → Synth n flags (Known ts count ws) (messageAt ts k)
-  pub yes : ok ≡ true → Synth n flags (Known ts count ws) (messageAt ts t)
-  pub no : ok ≡ false → Synth n flags (Known ts count ws) (messageAt ts t) → ⊥
+  pub only : (k : ℕ) → k < count → marked ws′ k ≡ true → Composable n flags ts count ws k
+  pub answer : Decides ok (Composable n flags ts count ws t)
 
 -- ---- putting together, by operands
 
@@ -77,45 +80,35 @@ module _ (n flags : ℕ) (ts : List ℕ) (at : ℕ) (sub : ℕ → Message) (K :
       (f .0, f .1, λ x y. inr (x, subst (Synth n flags K) e y), λ y. ⊎-elim (λ z. inl z) (λ z. inr (z .0, subst (Synth n flags K) (sym e) (z .1))) y)
   two-way Unknown f t = absurd f
 
--- ---- the test's ways to its answer
+-- ---- a term of the table, by its operands
 
-module _ (flags : ℕ) {n : ℕ} {ts : List ℕ} {count : ℕ} (v : Valid n ts count) {ws : List ℕ} (w : Words 8 ws) (t : ℕ) (h : t < count) where
+pub composable-known : (n flags : ℕ) (ts : List ℕ) (count : ℕ) (ws : List ℕ) (t : ℕ) → t < count → marked ws t ≡ true
+    → Composable n flags ts count ws t
+composable-known n flags ts count ws t h m =
+    of-known n flags (Known ts count ws) (messageAt ts t) (record { at = t; below = h; mark = m; is = refl })
+
+module _ (flags : ℕ) {n : ℕ} {ts : List ℕ} {count : ℕ} (v : Valid n ts count) (ws : List ℕ) (t : ℕ) (h : t < count) where
   here : TwoWay n flags ts t (messageAt ts) (Known ts count ws) (termAt ts t) (operandsOf (termAt ts t))
   here =
       two-way n flags ts t (messageAt ts) (Known ts count ws) (λ k lt e. key-at (v .terms) k (omega arith) e) (termAt ts t) (fields-at (v .terms) t h)
       (time-fits (getD ts t 0))
 
-  known-synth : (k : ℕ) → k < count → marked ws k ≡ true → Synth n flags (Known ts count ws) (messageAt ts k)
-  known-synth k hk m = of-known n flags (Known ts count ws) (messageAt ts k) (record { at = k; below = hk; mark = m; is = refl })
-
-  -- the term is in the set
-  pub composed-known : marked ws t ≡ true → ComposedIs n flags ts count ws t true ws
-  composed-known m = record { grown = grown-refl w; only = known-synth; yes = λ _. known-synth t h m; no = λ e. no-true (sym e) }
-
-  to : Synth n flags (Known ts count ws) (messageOf (messageAt ts) (termAt ts t)) → Synth n flags (Known ts count ws) (messageAt ts t)
+  to : Synth n flags (Known ts count ws) (messageOf (messageAt ts) (termAt ts t)) → Composable n flags ts count ws t
   to = subst (Synth n flags (Known ts count ws)) (sym (message-at (v .terms) t h))
 
-  from : Synth n flags (Known ts count ws) (messageAt ts t) → Synth n flags (Known ts count ws) (messageOf (messageAt ts) (termAt ts t))
+  from : Composable n flags ts count ws t → Synth n flags (Known ts count ws) (messageOf (messageAt ts) (termAt ts t))
   from = subst (Synth n flags (Known ts count ws)) (message-at (v .terms) t h)
 
   unknown : marked ws t ≡ false → Known ts count ws (messageOf (messageAt ts) (termAt ts t)) → ⊥
   unknown m k = no-true (sym m ∙ known-self flags ws v t h (subst (Known ts count ws) (sym (message-at (v .terms) t h)) k))
 
-  -- it is not, and has no operands
-  pub composed-atom : marked ws t ≡ false → operandsOf (termAt ts t) ≡ Atom → (ok : Bool) → ok ≡ publicOf flags (termAt ts t)
-      → ComposedIs n flags ts count ws t ok ws
-  composed-atom m e ok p =
+  -- it is not in the set, and has no operands
+  pub composable-atom : marked ws t ≡ false → operandsOf (termAt ts t) ≡ Atom
+      → Decides (publicOf flags (termAt ts t)) (Composable n flags ts count ws t)
+  composable-atom m e =
       let way : TwoWay n flags ts t (messageAt ts) (Known ts count ws) (termAt ts t) Atom =
       subst (TwoWay n flags ts t (messageAt ts) (Known ts count ws) (termAt ts t)) e here in
-      record {
-        grown = grown-refl w;
-        only = known-synth;
-        yes = λ q. to (way .0 (sym p ∙ q));
-        no = λ q y. ⊎-elim (unknown m) (λ z. no-true (sym (p′ q) ∙ z)) (way .1 (from y));
-      }
-    where
-      p′ : ok ≡ false → publicOf flags (termAt ts t) ≡ false
-      p′ q = sym p ∙ q
+      record { yes = λ q. to (way .0 q); no = λ q y. ⊎-elim (unknown m) (λ z. no-true (sym q ∙ z)) (way .1 (from y)) }
 
   module _ (l r : ℕ) (e : operandsOf (termAt ts t) ≡ Two l r) where
     ways : TwoWay n flags ts t (messageAt ts) (Known ts count ws) (termAt ts t) (Two l r)
@@ -127,6 +120,32 @@ module _ (flags : ℕ) {n : ℕ} {ts : List ℕ} {count : ℕ} (v : Valid n ts c
     pub right-below : r < t
     right-below = ways .1
 
+    pub together : Composable n flags ts count ws l → Composable n flags ts count ws r → Composable n flags ts count ws t
+    together a b = to (ways .2 a b)
+
+    -- a term that is not in the set takes both operands
+    pub apart : marked ws t ≡ false → Composable n flags ts count ws t → Composable n flags ts count ws l × Composable n flags ts count ws r
+    apart m y = ⊎-elim (λ k. absurd (unknown m k)) (λ z. z) (ways .3 (from y))
+
+-- ---- the test's ways to its answer
+
+module _ (flags : ℕ) {n : ℕ} {ts : List ℕ} {count : ℕ} (v : Valid n ts count) {ws : List ℕ} (w : Words 8 ws) (t : ℕ) (h : t < count) where
+  -- the term is in the set
+  pub composed-known : marked ws t ≡ true → ComposedIs n flags ts count ws t true ws
+  composed-known m =
+      record {
+        grown = grown-refl w;
+        only = composable-known n flags ts count ws;
+        answer = proved (composable-known n flags ts count ws t h m);
+      }
+
+  -- it is not, and has no operands
+  pub composed-atom : marked ws t ≡ false → operandsOf (termAt ts t) ≡ Atom → (ok : Bool) → ok ≡ publicOf flags (termAt ts t)
+      → ComposedIs n flags ts count ws t ok ws
+  composed-atom m e ok p =
+      record { grown = grown-refl w; only = composable-known n flags ts count ws; answer = rw p (composable-atom flags v ws t h m e) }
+
+  module _ (l r : ℕ) (e : operandsOf (termAt ts t) ≡ Two l r) where
     -- the first operand cannot be put together
     pub composed-left-no : marked ws t ≡ false → {ok : Bool} {ws₁ : List ℕ} → ok ≡ false
         → ComposedIs n flags ts count ws l ok ws₁ → ComposedIs n flags ts count ws t ok ws₁
@@ -134,8 +153,7 @@ module _ (flags : ℕ) {n : ℕ} {ts : List ℕ} {count : ℕ} (v : Valid n ts c
         record {
           grown = a .grown;
           only = a .only;
-          yes = λ q. no-true (sym f ∙ q);
-          no = λ _ y. ⊎-elim (unknown m) (λ z. a .no f (z .0)) (ways .3 (from y));
+          answer = rw f (refuted (λ y. a .answer .no f (apart flags v ws t h l r e m y .0)));
         }
 
     module _ {ok₁ : Bool} {ws₁ : List ℕ} (p : ok₁ ≡ true) (a : ComposedIs n flags ts count ws l ok₁ ws₁) where
@@ -157,8 +175,7 @@ module _ (flags : ℕ) {n : ℕ} {ts : List ℕ} {count : ℕ} (v : Valid n ts c
           record {
             grown = grown-trans (a .grown) (b .grown);
             only = λ k hk q. back (messageAt ts k) (b .only k hk q);
-            yes = λ q. no-true (sym f ∙ q);
-            no = λ _ y. ⊎-elim (unknown m) (λ z. b .no f (forth (messageAt ts r) (z .1))) (ways .3 (from y));
+            answer = rw f (refuted (λ y. b .answer .no f (forth (messageAt ts r) (apart flags v ws t h l r e m y .1))));
           }
 
       -- both can
@@ -168,14 +185,13 @@ module _ (flags : ℕ) {n : ℕ} {ts : List ℕ} {count : ℕ} (v : Valid n ts c
           record {
             grown = grown-trans (grown-trans (a .grown) (b .grown)) (grown-with (b .grown .words) t t512);
             only = λ k hk q.
-                ⊎-elim (λ i. subst (λ (x : ℕ). Synth n flags (Known ts count ws) (messageAt ts x)) (sym i) all)
+                ⊎-elim (λ i. subst (Composable n flags ts count ws) (sym i) all)
                 (λ q′. back (messageAt ts k) (b .only k hk q′)) (marked-new ws₂ t (omega (arith, b .grown .words .len)) k q);
-            yes = λ _. all;
-            no = λ q. no-true (sym q);
+            answer = proved all;
           }
         where
           t512 : t < 512
           t512 = omega (arith, v .room)
 
-          all : Synth n flags (Known ts count ws) (messageAt ts t)
-          all = to (ways .2 (a .yes p) (back (messageAt ts r) (b .yes q₂)))
+          all : Composable n flags ts count ws t
+          all = together flags v ws t h l r e (a .answer .yes p) (back (messageAt ts r) (b .answer .yes q₂))

@@ -7,7 +7,7 @@ use Prim.Native.Nat.{ℕ}
 use Rattle.terms.specs.Choice.{Decides}
 use Rattle.terms.specs.Meaning.{messageAt}
 use Rattle.terms.specs.Valid.{Valid}
-use Rattle.deduction.specs.Compose.{ComposedIs}
+use Rattle.deduction.specs.Compose.{Composable}
 use Rattle.deduction.specs.Derives.{Derives}
 use Rattle.deduction.specs.Known.{Known, derives-synth}
 use Rattle.deduction.specs.Saturate.{Filled}
@@ -17,9 +17,9 @@ use Rattle.deduction.specs.Synth.{synth-derives}
 abbrev pub Derivable : (n flags : ℕ) (ts : List ℕ) (count : ℕ) (ws : List ℕ) (t : ℕ) → Type 0
 Derivable n flags ts count ws t = Derives n flags (Known ts count ws) (messageAt ts t)
 
--- saturate, then compose: the answer is true exactly where the message can be derived
-pub decided : (flags : ℕ) {n : ℕ} {ts : List ℕ} {count : ℕ} (v : Valid n ts count) {ws ws₁ ws₂ : List ℕ} (t : ℕ) {ok : Bool}
-    → Filled n flags ts count ws ws₁ → ComposedIs n flags ts count ws₁ t ok ws₂ → Decides ok (Derivable n flags ts count ws t)
+-- what can be put together from the saturated set is what can be derived
+pub decided : (flags : ℕ) {n : ℕ} {ts : List ℕ} {count : ℕ} (v : Valid n ts count) {ws ws₁ : List ℕ} (t : ℕ) {ok : Bool}
+    → Filled n flags ts count ws ws₁ → Decides ok (Composable n flags ts count ws₁ t) → Decides ok (Derivable n flags ts count ws t)
 decided flags {n} {ts} {count} v {ws} {ws₁} t f b =
     record {
       yes = λ q.

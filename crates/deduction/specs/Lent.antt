@@ -1,5 +1,5 @@
 -- The answer of `can_derive`. Tables that do not hold together get 10, a term that is not present 6, and of the others
--- the answer says whether the message can be derived: there is no equation to state, since `Derives` runs no search.
+-- the answer says whether the message can be derived: by `Derives`, which runs no search, and not by the test's own function.
 -- Assumes nothing.
 use mathlib.Core.Path.{_≡_, refl, sym, _∙_}
 use mathlib.Core.Bool.{Bool, true, false}

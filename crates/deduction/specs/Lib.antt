@@ -8,5 +8,6 @@ pub mod Sweep
 pub mod Saturate
 pub mod Compose
 pub mod Derivable
+pub mod Test
 pub mod Lent
 pub mod Cases

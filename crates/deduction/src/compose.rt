@@ -10,10 +10,9 @@ use words::decode;
 ghost use mathlib.Core.Path.{_≡_};
 ghost use Prim.Native.Nat.{_<_};
 ghost use lib.ListN.{length};
-ghost use Rattle.terms.specs.Choice.{Decides};
 ghost use Rattle.terms.specs.Valid.{Valid};
 ghost use Rattle.deduction.specs.Compose.{operandsOf, ComposedIs};
-ghost use Rattle.deduction.specs.Derivable.{Derivable};
+ghost use Rattle.deduction.specs.Test.{derivableOf};
 
 // A term's operands.
 pub enum Operands {
@@ -76,7 +75,7 @@ pub fn compose(terms: &[u64], count: usize, who: Principals, set: [u64; 8], t: u
 // Whether the intruder can derive term t, with the set `wire` on the wire.
 pub fn derivable(terms: &[u64], count: usize, who: Principals, wire: &[u64], t: usize) -> bool
     requires { ⌜ Valid (who .n) (now terms) count × (length (now wire) ≡ 8) × (t < count) ⌝ }
-    ensures { λ r. ⌜ Decides r (Derivable (who .n) (who .flags) (now (terms .entry)) count (now (wire .entry)) t) ⌝ }
+    ensures { λ r. ⌜ r ≡ derivableOf (who .flags) (now (terms .entry)) count (now (wire .entry)) t ⌝ }
 {
     let known = saturate(terms, count, who, load(wire));
     let composed = compose(terms, count, who, known, t);

@@ -52,3 +52,10 @@ proved p = record { yes = λ _. p; no = λ e. no-true (sym e) }
 
 pub refuted : {P : Type 0} → (P → ⊥) → Decides false P
 refuted f = record { yes = λ e. no-true e; no = λ _. f }
+
+-- two tests of the same give the same answer
+pub same-answer : {P : Type 0} (a b : Bool) → Decides a P → Decides b P → a ≡ b
+same-answer true true f g = refl
+same-answer true false f g = absurd (g .no refl (f .yes refl))
+same-answer false true f g = absurd (f .no refl (g .yes refl))
+same-answer false false f g = refl

@@ -9,6 +9,10 @@ use Rattle.words.specs.declared.Term.the-variants.{Principal, Time, Nonc
 
 -- ---- definitions
 
+-- the word of a kind and operands L and R
+abbrev pub packed : (kind L R : ℕ) → ℕ
+packed kind L R = kind * 4294967296 + L * 65536 + R
+
 abbrev pub kindOf : ℕ → ℕ
 kindOf w = w / 4294967296
 

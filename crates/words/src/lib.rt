@@ -1,7 +1,7 @@
 // A term is one word: kind * 2^32 + L * 2^16 + R.
 ghost use mathlib.Core.Path.{_≡_};
 ghost use Prim.Native.Nat.{_+_, _*_};
-ghost use Rattle.words.specs.Word.{termOf, wordOf};
+ghost use Rattle.words.specs.Word.{packed, termOf, wordOf};
 
 // The kinds.
 pub const PRINCIPAL: u64 = 0;
@@ -52,7 +52,7 @@ pub fn decode(word: u64) -> Term
 
 // The word of a kind and two fields.
 pub fn pack(kind: u8, left: u16, right: u16) -> u64
-    ensures { λ r. ⌜ r ≡ kind * 4294967296 + left * 65536 + right ⌝ }
+    ensures { λ r. ⌜ r ≡ packed kind left right ⌝ }
 {
     (kind as u64) * 4294967296 + (left as u64) * 65536 + (right as u64)
 }

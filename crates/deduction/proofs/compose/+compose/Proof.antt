@@ -138,7 +138,7 @@ compose-compose-requires : (m : ℕ) → compose-lts.Need-compose-requires (clai
 compose-compose-requires m c κs =
     let s = start m (c .before .before .before) in
     let lt : left m (c .before) < s .args .t =
-    left-below (s .args .who .flags) (s .pre .1 .0) (words m s) (s .args .t) (s .pre .1 .1) (left m (c .before)) (right m (c .before)) (two-are m (c .before)) in
+    left-below (s .args .who .flags) (s .pre .1 .0) (s .args .set) (s .args .t) (s .pre .1 .1) (left m (c .before)) (right m (c .before)) (two-are m (c .before)) in
     (subst (λ (x : ℕ). left m (c .before) < x) (s .pre .0) lt, (s .pre .1 .0, omega (arith, lt, s .pre .1 .1)))
 
 compose-returns-3 : (m : ℕ) → compose-lts.Need-returns-3 (claims m) (compose-at m) compose.Post
@@ -153,7 +153,7 @@ compose-compose-requires-2 m c κs =
     let named = c .before .before .before .before .before in
     let s = start m (named .before .before) in
     let lt : right m named < s .args .t =
-    right-below (s .args .who .flags) (s .pre .1 .0) (words m s) (s .args .t) (s .pre .1 .1) (left m named) (right m named) (two-are m named) in
+    right-below (s .args .who .flags) (s .pre .1 .0) (s .args .set) (s .args .t) (s .pre .1 .1) (left m named) (right m named) (two-are m named) in
     (subst (λ (x : ℕ). right m named < x) (s .pre .0) lt, (s .pre .1 .0, omega (arith, lt, s .pre .1 .1)))
 
 compose-returns-4 : (m : ℕ) → compose-lts.Need-returns-4 (claims m) (compose-at m) compose.Post

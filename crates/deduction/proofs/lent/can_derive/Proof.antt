@@ -5,9 +5,11 @@ use Prim.Native.Nat.{ℕ}
 use native.Mathlib.Omega.{arith}
 use borrow.Author.Tests.{not-true, not-false}
 use Rattle.marks.specs.Within.{within}
-use Rattle.terms.specs.Choice.{no-true}
+use Rattle.terms.specs.Choice.{Decides, no-true}
 use Rattle.terms.specs.Valid.{holds-valid}
+use Rattle.deduction.specs.Derivable.{Derivable}
 use Rattle.deduction.specs.Lent.{TablesHold, refused-tables, refused-term, answered}
+use Rattle.deduction.specs.Test.{derivable-decides}
 use borrow.Author.Needs.{needs}
 use Rattle.deduction.proofs.lent.can_derive.Statement.{statement}
 use Rattle.deduction.proofs.lent.can_derive.Tie as tie
@@ -25,6 +27,16 @@ fit c =
       words = c .before .before .before .if2 .left;
       marks = sym (within-wire (c .before)) ∙ not-false _ (c .if3 .left);
     }
+
+-- the answer of `derivable`
+told : (c : tie.After-derivable)
+    → let a = c .before .before .before .before .before .before .before .before .before .before .args in
+    Decides (c .derivable .result) (Derivable (a .who .n) (a .who .flags) (a .terms .now) (a .count) (a .wire .now) (a .t))
+told c =
+    let a = c .before .before .before .before .before .before .before .before .before .before .args in
+    let h = fit (c .before .before) in
+    derivable-decides (a .who .flags) (holds-valid (a .who .n) (a .terms .now) (a .count) (h .terms)) (c .before .before .before .before .load .ensures .1)
+    (a .t) (omega arith) (c .derivable .result) (c .derivable .ensures)
 
 -- ---- the needs
 
@@ -58,10 +70,10 @@ derivable-requires c κs =
     (holds-valid (a .who .n) (a .terms .now) (a .count) (h .terms), h .words, omega arith)
 
 returns-5 : tie.Need-returns-5
-returns-5 c = let a = c .before .before .before .before .before .before .before .before .before .before .before .args in answered (a .who .n) (a .who .flags) (a .terms .now) (a .count) (a .wire .now) (a .t) (fit (c .before .before .before)) (omega arith) (c .before .derivable .ensures .yes (c .if5 .taken))
+returns-5 c = let a = c .before .before .before .before .before .before .before .before .before .before .before .args in answered (a .who .n) (a .who .flags) (a .terms .now) (a .count) (a .wire .now) (a .t) (fit (c .before .before .before)) (omega arith) (told (c .before) .yes (c .if5 .taken))
 
 returns-6 : tie.Need-returns-6
-returns-6 c = let a = c .before .before .before .before .before .before .before .before .before .before .before .args in answered (a .who .n) (a .who .flags) (a .terms .now) (a .count) (a .wire .now) (a .t) (fit (c .before .before .before)) (omega arith) (c .before .derivable .ensures .no (c .if5 .left))
+returns-6 c = let a = c .before .before .before .before .before .before .before .before .before .before .before .args in answered (a .who .n) (a .who .flags) (a .terms .now) (a .count) (a .wire .now) (a .t) (fit (c .before .before .before)) (omega arith) (told (c .before) .no (c .if5 .left))
 
 pub can-derive-spec : {M : Type 1} → statement M
 can-derive-spec =
