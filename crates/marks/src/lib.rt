@@ -1,5 +1,6 @@
 // Packed sets of small numbers: number i is bit i % 64 of word i / 64. A set of terms is 8 words.
 ghost use mathlib.Core.Path.{_≡_};
+ghost use Prim.Native.Nat.{_<_};
 ghost use lib.ListN.{length};
 ghost use Rattle.marks.specs.Marks.{Words, isSet, marked, withMark, size};
 ghost use Rattle.marks.specs.Within.{within};
@@ -27,6 +28,14 @@ pub fn with(set: [u64; 8], i: usize) -> [u64; 8]
     let mut s = set;
     s[i / 64] = s[i / 64] | 1 << (i % 64);
     s
+}
+
+// Puts i into a lent set. The caller knows that it has 8 words and that i has a place.
+pub fn mark(set: &mut [u64], i: usize)
+    requires { ⌜ (length (now set) ≡ 8) × (i < 512) ⌝ }
+    ensures { λ _. ⌜ now (set .exit) ≡ withMark (now (set .entry)) i ⌝ }
+{
+    set[i / 64] = set[i / 64] | 1 << (i % 64);
 }
 
 // How many numbers are in the set: the ones of its words, summed.

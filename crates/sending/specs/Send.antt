@@ -1,0 +1,104 @@
+-- Sending (document 01, "Steps": "'Sends' puts the term on the wire, a set of term numbers"). What a step sends is a list of
+-- messages: their terms are entered one message after another, and where they do not all fit nothing changes.
+-- Assumes nothing.
+use mathlib.Core.Path.{_≡_}
+use mathlib.Core.Bool.{true}
+use mathlib.Core.List.{List, [], _∷_, List·Memᴰ}
+use mathlib.Core.Logic.{_↔_, _⊎_}
+use Prim.Native.Nat.{ℕ, _<_, _≤_}
+use lib.Dec.{leb}
+use lib.ListN.{length, drop}
+use Rattle.drafts.specs.declared.Node.{Node}
+use Rattle.drafts.specs.Draft.{draftFits}
+use Rattle.drafts.specs.Writes.{Writes}
+use Rattle.marks.specs.Marks.{Words, marked, withMark}
+use Rattle.terms.specs.Choice.{pick}
+use Rattle.terms.specs.Meaning.{messageAt}
+use Rattle.terms.specs.Message.{Message}
+use Rattle.terms.specs.Number.{numberIn, termsOf}
+use Rattle.terms.specs.Rules.{Agree}
+use Rattle.terms.specs.Valid.{Valid}
+use Rattle.messages.specs.Entered.{entered}
+use Rattle.messages.specs.Lent.{over}
+use Rattle.messages.specs.Listed.{addAll}
+use Rattle.messages.specs.Meanings.{meanings}
+use Rattle.messages.specs.Standing.{Standing}
+use Rattle.deduction.specs.Known.{Known}
+use Rattle.sending.specs.declared.Sent.{Sent}
+use Rattle.sending.specs.declared.Sent.the-variants.{Count, Refused}
+
+-- ---- what is sent
+
+-- each message entered after the one before it
+abbrev pub enteredAll : List ℕ → List Message → List ℕ
+enteredAll xs [] = xs
+enteredAll xs (m ∷ ms) = enteredAll (entered xs m) ms
+
+-- the wire with the number that each message has among the terms xs
+abbrev pub markedAll : (ws xs : List ℕ) → List Message → List ℕ
+markedAll ws xs [] = ws
+markedAll ws xs (m ∷ ms) = markedAll (withMark ws (numberIn xs m)) xs ms
+
+-- ---- the call
+
+-- What a call comes to: how many terms there are after it, or the refusal's number. Either has the term table and the wire after it.
+pub data Sending : Type 0 where
+  sent : (count : ℕ) (terms wire : List ℕ) → Sending
+  refused : (number : ℕ) (terms wire : List ℕ) → Sending
+
+abbrev pub outcome : Sent → (terms wire : List ℕ) → Sending
+outcome (Count count) terms wire = sent count terms wire
+outcome (Refused number) terms wire = refused number terms wire
+
+-- "When a step needs a message, its terms are added"; 20 if "the new terms do not all fit"
+abbrev pub sending : (ts ws xs : List ℕ) → List Message → Sending
+sending ts ws xs ms = pick (leb (length xs) 512) (sent (length xs) (over xs ts) (markedAll ws xs ms)) (refused 20 ts ws)
+
+unfoldable pub sendOf : (ts ws : List ℕ) (count : ℕ) → List Message → Sending
+sendOf ts ws count ms = sending ts ws (enteredAll (termsOf ts count) ms) ms
+
+-- ---- what a call asks for
+
+-- the tables hold together and the draft fits, whatever the realm: the call itself has no use for its size
+pub record Sendable (ts ws : List ℕ) (count : ℕ) (draft : List Node) (first last : ℕ) : Type 0 where
+  pub n : ℕ
+  pub small : n ≤ 65536
+  pub table : Valid n ts count
+  pub fits : draftFits n count draft ≡ true
+  pub words : length ws ≡ 8
+  pub first-node : first < 16
+  pub last-node : last < 16
+
+-- the fields of every message are in range
+abbrev pub AllWrites : ℕ → List Message → Type 0
+AllWrites n [] = Unit {0}
+AllWrites n (m ∷ ms) = Writes n m × AllWrites n ms
+
+-- ---- what holds after it
+
+-- the messages ms were sent over a table ts of `count` terms and a wire ws; ts′, `count′` and ws′ are what came of them
+pub record SentIs (n : ℕ) (ts ws : List ℕ) (count : ℕ) (ms : List Message) (ts′ ws′ : List ℕ) (count′ : ℕ) : Type 0 where
+  -- the table keeps the rules
+  pub valid : Valid n ts′ count′
+  -- older terms keep their numbers and their meaning, and places past the terms their values
+  pub more : count ≤ count′
+  pub older : Agree ts ts′ count
+  pub meaning : (i : ℕ) → i < count → messageAt ts i ≡ messageAt ts′ i
+  pub past : drop count′ ts′ ≡ drop count′ ts
+  -- the terms are those of before, and those of the messages
+  pub added : meanings ts′ count′ ≡ addAll ms (meanings ts count)
+  pub fits : length (addAll ms (meanings ts count)) ≤ 512
+  -- each message has a number
+  pub each : (m : Message) → List·Memᴰ m ms → Standing (termsOf ts′ count′) m (numberIn (termsOf ts′ count′) m)
+  -- the wire is a set of 8 words with no mark past the last term
+  pub words : Words 8 ws′
+  pub within : (i : ℕ) → marked ws′ i ≡ true → i < count′
+  -- on the wire is what was there before, and the messages
+  pub wire : (m : Message) → Known ts′ count′ ws′ m ↔ (Known ts count ws m ⊎ List·Memᴰ m ms)
+
+-- the messages were refused: with them there would be more than 512 terms
+pub record SendRefused (ts ws : List ℕ) (count : ℕ) (ms : List Message) (number : ℕ) (ts′ ws′ : List ℕ) : Type 0 where
+  pub twenty : number ≡ 20
+  pub terms : ts′ ≡ ts
+  pub wire : ws′ ≡ ws
+  pub full : 512 < length (addAll ms (meanings ts count))
