@@ -11,6 +11,7 @@ pub const REFUSE_REPLAY: u8 = 18;
 pub const REFUSE_CACHE_FULL: u8 = 19;
 
 // The responder, the number of the session key, and the authenticator's time. The first two are as wide as a term's operand.
+#[repr(C)]
 pub struct Entry {
     pub b: u16,
     pub k: u16,

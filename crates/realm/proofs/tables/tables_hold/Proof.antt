@@ -1,0 +1,66 @@
+-- `realm::tables::tables_hold` meets its contract: the answers of the five tests, and what they say together. Assumes nothing.
+use Rattle.realm.specs.Tables.{tables}
+use Rattle.realm.specs.Check.{together, together-is}
+use lib.ListN.{length}
+use mathlib.Core.Path.{_≡_, sym, _∙_}
+use mathlib.Core.Bool.{Bool, _&&_}
+use Prim.Native.Nat.{_^_, _<_}
+use borrow.Author.Needs.{needs}
+use Rattle.realm.proofs.tables.tables_hold.Statement.{statement}
+use Rattle.realm.proofs.tables.tables_hold.Tie as tie
+
+narrow-ls : (c : tie.After-entries-hold) → c .before .before .before .before .before .before .before .before .args .h .ls < 2 ^ 32
+narrow-ls c = search needs
+
+narrow-la : (c : tie.After-entries-hold) → c .before .before .before .before .before .before .before .before .args .h .la < 2 ^ 32
+narrow-la c = search needs
+
+sixteen : (c : tie.After-entries-hold) → length (c .before .before .before .before .before .before .before .before .args .cache) ≡ 16
+sixteen c = search needs
+
+answered : (c : tie.After-entries-hold)
+    → let a = c .before .before .before .before .before .before .before .before .args in
+    (c .before .before .before .before .header-fits .result && c .before .before .before .holds-together .result && c .before .before .rows-hold .result
+    && c .before .wire-holds .result && c .entries-hold .result) ≡ together (tables (a .h) (a .terms .now) (a .runs .now) (a .wire .now) (a .cache))
+unfolding together
+answered c =
+    rw (
+      c .before .before .before .before .header-fits .ensures,
+      c .before .before .before .holds-together .ensures,
+      c .before .before .rows-hold .ensures,
+      c .before .wire-holds .ensures .0,
+      c .entries-hold .ensures,
+    )
+
+header-fits-requires : tie.Need-header-fits-requires
+header-fits-requires c κs = search needs
+
+cast-holds-together : tie.Need-cast-holds-together
+cast-holds-together c = search needs
+
+holds-together-requires : tie.Need-holds-together-requires
+holds-together-requires c κs = search needs
+
+rows-hold-requires : tie.Need-rows-hold-requires
+rows-hold-requires c κs = search needs
+
+wire-holds-requires : tie.Need-wire-holds-requires
+wire-holds-requires c κs = search needs
+
+entries-hold-requires : tie.Need-entries-hold-requires
+entries-hold-requires c κs = search needs
+
+returns : tie.Need-returns
+returns c = (answered c, λ e. together-is _ (narrow-ls c) (narrow-la c) (c .before .wire-holds .ensures .1) (sixteen c) (sym (answered c) ∙ e))
+
+pub tables-hold-spec : {M : Type 1} → statement M
+tables-hold-spec =
+    tie.close
+    (tie.spec
+    header-fits-requires
+    cast-holds-together
+    holds-together-requires
+    rows-hold-requires
+    wire-holds-requires
+    entries-hold-requires
+    returns)

@@ -1,0 +1,6 @@
+pub mod Promises
+pub mod Opening
+pub mod Input
+pub mod Tables
+pub mod Header
+pub mod Check
