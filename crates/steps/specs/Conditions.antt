@@ -1,0 +1,39 @@
+-- The conditions that steps share (document 01, "What turns a record away, from the state"), as tests.
+-- Assumes nothing.
+use Prim.Native.Nat.{ℕ, _+_, _<_}
+use mathlib.Core.Bool.{Bool, not}
+use mathlib.Core.List.{List}
+use lib.Dec.{ltb, eqb}
+use Rattle.marks.specs.Marks.{Words}
+use Rattle.terms.specs.Choice.{pick}
+use Rattle.terms.specs.Valid.{Valid}
+use Rattle.deduction.specs.Test.{derivableOf}
+use Rattle.replay.specs.Cache.{present, entries}
+use Rattle.replay.specs.declared.entry.Entry.{Entry}
+use Rattle.realm.specs.declared.header.Realm.{Realm}
+
+-- term m of these tables can be asked for
+pub record Delivers (h : Realm) (ts ws : List ℕ) (m : ℕ) : Type 0 where
+  pub terms : Valid (h .n) ts (h .terms)
+  pub wire : Words 8 ws
+  pub below : m < h .terms
+
+-- "the intruder can build m"
+abbrev pub derivableAt : Realm → (ts ws : List ℕ) → ℕ → Bool
+derivableAt h ts ws m = derivableOf (h .flags) ts (h .terms) ws m
+
+-- not "clock is at or above Ts + Ls"
+abbrev pub ticketLives : Realm → ℕ → Bool
+ticketLives h ts = ltb (h .clock) (ts + h .ls)
+
+-- not "clock is at or above Ta + La"
+abbrev pub authenticatorLives : Realm → ℕ → Bool
+authenticatorLives h ta = ltb (h .clock) (ta + h .la)
+
+-- 0, or the number of the refusal: 16, 17, 18 "b, K, Ta is in the cache", 19 "the cache holds 16 entries"
+unfoldable pub admission : Realm → List Entry → (ts : ℕ) → Entry → ℕ
+admission h cache ts e =
+    pick (not (ticketLives h ts)) 16
+    (pick (not (authenticatorLives h (e .ta))) 17
+    (pick (present (entries cache (h .entries)) e) 18
+    (pick (eqb (h .entries) 16) 19 0)))

@@ -1,0 +1,5 @@
+-- The proofs behind the contracts.
+pub mod Admit
+pub mod Take
+pub mod Decide
+pub mod Refusals

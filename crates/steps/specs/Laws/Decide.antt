@@ -1,0 +1,183 @@
+-- Each way out of a whole step, and what the fields of a step that passes name.
+-- Assumes nothing.
+use Prim.Native.Nat.{ℕ, _<_, _≤_}
+use native.Mathlib.Decide.{decLt}
+use native.Mathlib.Omega.{arith}
+use mathlib.Core.Bool.{Bool, true, false, not, _&&_, _||_}
+use mathlib.Core.List.{List}
+use mathlib.Core.Logic.{inl, inr}
+use mathlib.Core.Path.{_≡_, refl, sym, subst}
+use lib.Dec.{ltb}
+use borrow.Author.Tests.{le-leb, lt-leb, ltb-true, eq-eqb, ne-eqb}
+use Rattle.terms.specs.Choice.{no-true}
+use Rattle.exchange.specs.declared.event.Event.the-variants.{Initiate, Respond, Tick, Purge, Leak, Nothing}
+use Rattle.exchange.specs.declared.run.Row.{Row}
+use Rattle.exchange.specs.Needs.{needOf, meets}
+use Rattle.runs.specs.Lent.{principalsFit}
+use Rattle.runs.specs.Runs.{runAt}
+use Rattle.realm.specs.declared.header.Realm.{Realm}
+use Rattle.realm.specs.declared.input.Step.{Step}
+use Rattle.realm.specs.declared.input.Uses.{Uses}
+use Rattle.realm.specs.Input.{usesTable, usesOf, inRange, inputRefusal, passed}
+use Rattle.steps.specs.declared.take.Verdict.the-variants.{Takes, Refused}
+use Rattle.steps.specs.Conditions.{Delivers, derivableAt}
+use Rattle.steps.specs.Decide.{ticks, queries, stepOf, decided, NamesRun, Named}
+use Rattle.realm.specs.Tables.{Tables, Together}
+use Rattle.steps.specs.Take.{opensRun, issues, authenticates, takes, finishes}
+
+-- ---- step 7
+
+module _ (h : Realm) (t : ℕ) where
+  pub clock-back : t < h .clock → Refused 12 ≡ ticks h t
+  unfolding ticks
+  clock-back p = rw (lt-leb (h .clock) t p)
+
+  pub clock-set : h .clock ≤ t → Takes (Tick t) ≡ ticks h t
+  unfolding ticks
+  clock-set p = rw (le-leb (h .clock) t p)
+
+-- ---- step 10
+
+module _ (h : Realm) (ts ws : List ℕ) (m : ℕ) where
+  pub query-denied : derivableAt h ts ws m ≡ false → Refused 15 ≡ queries h ts ws m
+  unfolding queries
+  query-denied p = rw p
+
+  pub query-granted : derivableAt h ts ws m ≡ true → Takes Nothing ≡ queries h ts ws m
+  unfolding queries
+  query-granted p = rw p
+
+-- ---- the fields of a step that passes
+
+ends : (a b c d : Bool) → (a && b && c && d) ≡ true → (a ≡ true) × (d ≡ true)
+ends true true true d e = (refl, e)
+ends true true false d e = no-true e
+ends true false c d e = no-true e
+ends false b c d e = no-true e
+
+used : (a b : Bool) → a ≡ true → (not a || b) ≡ true → b ≡ true
+used true b p e = e
+used false b p e = no-true p
+
+module _ (h : Realm) (s : Step) where
+  both-in-range : (u : Uses) → inRange h u s ≡ true → (u .run ≡ true → s .run < h .runs) × (u .m ≡ true → s .m < h .terms)
+  unfolding inRange
+  both-in-range u e =
+      let run = ltb (s .run) (h .runs) in
+      let m = ltb (s .m) (h .terms) in
+      let p = ends (not (u .run) || run) (not (u .a) || principalsFit (h .n) (s .a) (s .b)) (not (u .b) || ltb (s .b) (h .n)) (not (u .m) || m) e in
+      (λ q. ltb-true (s .run) (h .runs) (used (u .run) run q (p .0)), λ q. ltb-true (s .m) (h .terms) (used (u .m) m q (p .1)))
+
+  module _ (passes : inputRefusal h s ≡ 0) where
+    -- a run that is used is present
+    pub run-below : (k : ℕ) → s .step ≡ k → usesOf k .run ≡ true → s .run < h .runs
+    run-below k e p = both-in-range (usesOf (s .step)) (passed h s passes .range) .0 (subst (λ (n : ℕ). usesOf n .run ≡ true) (sym e) p)
+
+    -- a term that is used is present
+    pub term-below : (k : ℕ) → s .step ≡ k → usesOf k .m ≡ true → s .m < h .terms
+    term-below k e p = both-in-range (usesOf (s .step)) (passed h s passes .range) .1 (subst (λ (n : ℕ). usesOf n .m ≡ true) (sym e) p)
+
+pub named-run-below : {h : Realm} {s : Step} → Named h s → s .run < h .runs
+unfolding usesTable
+named-run-below {h} {s} n = by (n .names)
+  where
+    by : NamesRun (s .step) → s .run < h .runs
+    by (inl e) = run-below h s (n .passes) 4 e refl
+    by (inr (inl e)) = run-below h s (n .passes) 5 e refl
+    by (inr (inr (inl e))) = run-below h s (n .passes) 6 e refl
+    by (inr (inr (inr e))) = run-below h s (n .passes) 9 e refl
+
+-- its message can be asked for
+pub delivers : {t : Tables} → Together t → (s : Step) → inputRefusal (t .realm) s ≡ 0 → (k : ℕ) → s .step ≡ k → usesOf k .m ≡ true
+    → Delivers (t .realm) (t .terms) (t .wire) (s .m)
+delivers {t} w s passes k e p = record { terms = w .terms-hold; wire = w .wire-words; below = term-below (t .realm) s passes k e p }
+
+-- ---- the steps that name a run
+
+module _ (t : Tables) (s : Step) (own : Row) (is : own ≡ runAt (t .runs) (s .run)) where
+  module _ (unfit : meets (needOf (s .step)) own ≡ false) where
+    unfit-at : (k : ℕ) → s .step ≡ k → meets (needOf k) own ≡ false
+    unfit-at k e = subst (λ (n : ℕ). meets (needOf n) own ≡ false) e unfit
+
+    pub run-barred : NamesRun (s .step) → Refused 11 ≡ stepOf t s
+    unfolding stepOf
+    run-barred (inl e) = rw (e, ← is, unfit-at 4 e)
+    run-barred (inr (inl e)) = rw (e, ← is, unfit-at 5 e)
+    run-barred (inr (inr (inl e))) = rw (e, ← is, unfit-at 6 e)
+    run-barred (inr (inr (inr e))) = rw (e, ← is, unfit-at 9 e)
+
+  module _ (fit : meets (needOf (s .step)) own ≡ true) where
+    fit-at : (k : ℕ) → s .step ≡ k → meets (needOf k) own ≡ true
+    fit-at k e = subst (λ (n : ℕ). meets (needOf n) own ≡ true) e fit
+
+    pub step-4 : s .step ≡ 4 → authenticates (t .realm) (t .terms) (t .wire) (s .run) own (s .m) ≡ stepOf t s
+    unfolding stepOf
+    step-4 e = rw (e, ← is, fit-at 4 e)
+
+    pub step-5 : s .step ≡ 5 → takes (t .realm) (t .terms) (t .wire) (t .cache) (s .run) own (s .m) ≡ stepOf t s
+    unfolding stepOf
+    step-5 e = rw (e, ← is, fit-at 5 e)
+
+    pub step-6 : s .step ≡ 6 → finishes (t .realm) (t .terms) (t .wire) (s .run) own (s .m) ≡ stepOf t s
+    unfolding stepOf
+    step-6 e = rw (e, ← is, fit-at 6 e)
+
+    pub step-9 : s .step ≡ 9 → Takes (Leak (s .run)) ≡ stepOf t s
+    unfolding stepOf
+    step-9 e = rw (e, ← is, fit-at 9 e)
+
+-- the last of them
+pub is-9 : (n : ℕ) → NamesRun n → (n ≡ 4 → ⊥) → (n ≡ 5 → ⊥) → (n ≡ 6 → ⊥) → n ≡ 9
+is-9 n (inl e) f g h = absurd (f e)
+is-9 n (inr (inl e)) f g h = absurd (g e)
+is-9 n (inr (inr (inl e))) f g h = absurd (h e)
+is-9 n (inr (inr (inr e))) f g h = e
+
+-- ---- the others
+
+module _ (t : Tables) (s : Step) where
+  pub step-1 : s .step ≡ 1 → opensRun (t .realm) (Initiate (t .realm .runs) (s .a) (s .b)) ≡ stepOf t s
+  unfolding stepOf
+  step-1 e = rw e
+
+  pub step-2 : s .step ≡ 2 → opensRun (t .realm) (Respond (t .realm .runs) (s .a) (s .b)) ≡ stepOf t s
+  unfolding stepOf
+  step-2 e = rw e
+
+  pub step-3 : s .step ≡ 3 → issues (t .realm) (t .terms) (t .wire) (s .m) ≡ stepOf t s
+  unfolding stepOf
+  step-3 e = rw e
+
+  pub step-7 : s .step ≡ 7 → ticks (t .realm) (s .t) ≡ stepOf t s
+  unfolding stepOf
+  step-7 e = rw e
+
+  pub step-8 : s .step ≡ 8 → Takes (Purge (s .b)) ≡ stepOf t s
+  unfolding stepOf
+  step-8 e = rw e
+
+  pub step-10 : s .step ≡ 10 → queries (t .realm) (t .terms) (t .wire) (s .m) ≡ stepOf t s
+  unfolding stepOf
+  step-10 e = rw e
+
+-- ---- the refusals of the fields
+
+module _ (t : Tables) (s : Step) where
+  pub fields-barred : (number : ℕ) → number ≡ inputRefusal (t .realm) s → (number ≡ 0 → ⊥) → Refused number ≡ decided t s
+  unfolding decided
+  fields-barred number e p = rw (← e, ne-eqb number 0 p)
+
+  pub fields-pass : inputRefusal (t .realm) s ≡ 0 → stepOf t s ≡ decided t s
+  unfolding decided
+  fields-pass e = rw (eq-eqb (inputRefusal (t .realm) s) 0 e)
+
+-- a step of none of these numbers names a run
+pub names-run : (n : ℕ) → 1 ≤ n → n ≤ 10 → (n ≡ 1 → ⊥) → (n ≡ 2 → ⊥) → (n ≡ 3 → ⊥) → (n ≡ 7 → ⊥) → (n ≡ 8 → ⊥) → (n ≡ 10 → ⊥)
+    → NamesRun n
+names-run n low high f₁ f₂ f₃ f₇ f₈ f₁₀ = by (decLt n 5) (decLt n 6) (decLt n 7)
+  where
+    by : Dec (n < 5) → Dec (n < 6) → Dec (n < 7) → NamesRun n
+    by (yes p) _ _ = inl (omega arith)
+    by (no p) (yes q) _ = inr (inl (omega arith))
+    by (no p) (no q) (yes r) = inr (inr (inl (omega arith)))
+    by (no p) (no q) (no r) = inr (inr (inr (omega arith)))
