@@ -1,0 +1,5 @@
+-- The laws by which the functions meet their contracts, one for each way out.
+pub mod Row
+pub mod Cache
+pub mod Sends
+pub mod Apply
