@@ -1,0 +1,10 @@
+pub mod Promises
+pub mod Values
+pub mod Cached
+pub mod Taken
+pub mod Fits
+pub mod Runs
+pub mod Entries
+pub mod Wire
+pub mod Terms
+pub mod Follows

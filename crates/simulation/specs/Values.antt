@@ -1,0 +1,32 @@
+-- The tables read as values, as the exchange's reading has them: rows, messages, what is on the wire, entries.
+-- Assumes nothing.
+use mathlib.Core.List.{map}
+use Rattle.messages.specs.Meanings.{meanings}
+use Rattle.deduction.specs.Known.{Known}
+use Rattle.runs.specs.Rows.{rowsOf}
+use Rattle.replay.specs.Cache.{entries}
+use Rattle.replay.specs.declared.entry.Entry as replay
+use Rattle.exchange.specs.Log.{Entry, entry}
+use Rattle.exchange.specs.Engine as exchange
+use Rattle.exchange.specs.declared.call.Call.{Call}
+use Rattle.exchange.specs.declared.call.Call.the-variants as calls
+use Rattle.realm.specs.declared.input.Step.{Step}
+use Rattle.realm.specs.Tables.{Tables}
+
+-- "entries hold b, K and Ta"
+abbrev pub logged : replay.Entry → Entry
+logged x = entry (x .b) (x .k) (x .ta)
+
+abbrev pub valuesOf : Tables → exchange.Tables
+valuesOf t =
+    record {
+      now = t .realm .clock;
+      rows = rowsOf (t .runs) (t .realm .runs);
+      terms = meanings (t .terms) (t .realm .terms);
+      wire = Known (t .terms) (t .realm .terms) (t .wire);
+      entries = map logged (entries (t .cache) (t .realm .entries));
+    }
+
+-- the step as a call
+abbrev pub callOf : Step → Call
+callOf s = calls.Step (s .step) (s .run) (s .a) (s .b) (s .m) (s .t)
