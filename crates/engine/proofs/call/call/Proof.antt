@@ -1,0 +1,59 @@
+-- `engine::call::call` meets its contract: by the contract of the call that its kind makes. Assumes nothing.
+use Rattle.engine.specs.Ways.{step-called}
+use Rattle.engine.specs.Ways.{term-called}
+use Rattle.engine.specs.Call.{called}
+use Rattle.realm.specs.Tables.{tables}
+use mathlib.Core.Path.{_≡_, sym, ap, _∙_}
+use borrow.Author.Needs.{needs}
+use Rattle.engine.proofs.call.call.Statement.{statement}
+use Rattle.engine.proofs.call.call.Tie as tie
+
+enum-known-c : tie.Need-enum-known-c
+enum-known-c c = search needs
+
+add-term-requires : tie.Need-add-term-requires
+add-term-requires c κs = search needs
+
+enum-known-c-2 : tie.Need-enum-known-c-2
+enum-known-c-2 c = search needs
+
+take-step-requires : tie.Need-take-step-requires
+take-step-requires c κs = search needs
+
+same-length : tie.Need-same-length
+same-length c = search needs
+
+returns : tie.Need-returns
+returns c = let a = c .before .before .before .before .before .before .before .before .before .before .before .args in
+    let e = c .before .before .before .add-term .ensures in
+    term-called (tables (a .h) (a .terms .now) (a .runs .now) (a .wire .now) (a .cache)) _ _ _ (c .before .before .before .add-term .result) _ (e .2) (e .0) (e .1)
+    ∙ ap (called (tables (a .h) (a .terms .now) (a .runs .now) (a .wire .now) (a .cache))) (sym (c .before .before .before .before .before .before .c .given .1))
+
+same-length-2 : tie.Need-same-length-2
+same-length-2 c = search needs
+
+same-length-3 : tie.Need-same-length-3
+same-length-3 c = search needs
+
+same-length-4 : tie.Need-same-length-4
+same-length-4 c = search needs
+
+returns-2 : tie.Need-returns-2
+returns-2 c = let a = c .before .before .before .before .before .before .before .before .before .before .before .before .before .before .before .before .args in
+    c .before .before .before .before .before .before .take-step .ensures ∙ step-called (tables (a .h) (a .terms .now) (a .runs .now) (a .wire .now) (a .cache)) _ _ _ _ _ _
+    ∙ ap (called (tables (a .h) (a .terms .now) (a .runs .now) (a .wire .now) (a .cache))) (sym (c .before .before .before .before .before .before .before .before .before .before .before .c2 .given .1))
+
+pub call-spec : {M : Type 1} → statement M
+call-spec =
+    tie.close
+    (tie.spec
+    enum-known-c
+    add-term-requires
+    enum-known-c-2
+    take-step-requires
+    same-length
+    returns
+    same-length-2
+    same-length-3
+    same-length-4
+    returns-2)
