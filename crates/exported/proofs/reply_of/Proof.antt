@@ -1,0 +1,50 @@
+-- `exported::reply_of` meets its contract: each arm by the answer that it is. Assumes nothing.
+use Rattle.exported.specs.Numbers.{means}
+use borrow.Author.Needs.{needs}
+use Rattle.exported.proofs.reply_of.Statement.{statement}
+use Rattle.exported.proofs.reply_of.Tie as tie
+
+enum-known-answer : tie.Need-enum-known-answer
+enum-known-answer c = search needs
+
+enum-known-answer-2 : tie.Need-enum-known-answer-2
+enum-known-answer-2 c = search needs
+
+cast-t8 : tie.Need-cast-t8
+cast-t8 c = search needs
+
+enum-told : tie.Need-enum-told
+enum-told c = search needs
+
+enum-known-answer-3 : tie.Need-enum-known-answer-3
+enum-known-answer-3 c = search needs
+
+cast-t9 : tie.Need-cast-t9
+cast-t9 c = search needs
+
+returns : tie.Need-returns
+returns c = means (c .before .before .before .before .args .x) 0 (c .before .answer .given .0 .0) (c .before .answer .given .1)
+
+returns-2 : tie.Need-returns-2
+returns-2 c = means (c .before .before .before .before .args .x) 1 (c .before .answer2 .given .0 .0) (c .before .answer2 .given .1)
+
+returns-3 : tie.Need-returns-3
+returns-3 c = means (c .before .before .before .args .x) 2 0 (c .enum-told .given .1)
+
+returns-4 : tie.Need-returns-4
+returns-4 c = means (c .before .before .before .before .args .x) 3 (c .before .answer3 .given .0 .0) (c .before .answer3 .given .1)
+
+pub reply-of-spec : {M : Type 1} → statement M
+reply-of-spec =
+    tie.close
+    (tie.spec
+    enum-known-answer
+    enum-known-answer-2
+    cast-t8
+    enum-told
+    enum-known-answer-3
+    cast-t9
+    returns
+    returns-2
+    returns-3
+    returns-4)

@@ -1,0 +1,109 @@
+// The public call for programs in other languages. An exported function takes numbers, slices and structs of numbers, so a call
+// and its answer are structs of numbers here.
+use calls::Called;
+use calls::call;
+use exchange::call::Answer;
+use exchange::call::Call;
+use realm::header::Realm;
+use replay::entry::Entry;
+ghost use mathlib.Core.Path.{_≡_};
+ghost use Rattle.realm.specs.Tables.{tables};
+ghost use Rattle.calls.specs.Lent.{outcome, lentCall};
+ghost use Rattle.exported.specs.Numbers.{callOf, calledOf};
+
+// A call: a term where `adds`, with the next three fields, or else a step, with the others.
+// Fields that are not used may hold anything.
+#[repr(C)]
+pub struct Record {
+    pub adds: bool,
+    pub kind: u8,
+    pub l: u16,
+    pub r: u16,
+    pub step: u8,
+    pub run: u8,
+    pub a: u8,
+    pub b: u8,
+    pub m: u16,
+    pub t: u32,
+}
+
+// The kinds of answers.
+const NUMBER: u8 = 0;
+
+const OK_RUN: u8 = 1;
+
+const OK: u8 = 2;
+
+const REFUSED: u8 = 3;
+
+// A realm after a call, the kind of the answer, and its number, or else 0.
+#[repr(C)]
+pub struct Reply {
+    pub realm: Realm,
+    pub kind: u8,
+    pub number: u16,
+}
+
+fn call_of(q: Record) -> Call
+    ensures { λ r. ⌜ r ≡ callOf q ⌝ }
+{
+    if q.adds {
+        return Call::Term {
+            kind: q.kind,
+            l: q.l,
+            r: q.r,
+        };
+    }
+    Call::Step {
+        step: q.step,
+        run: q.run,
+        a: q.a,
+        b: q.b,
+        m: q.m,
+        t: q.t,
+    }
+}
+
+fn reply_of(x: Called) -> Reply
+    ensures { λ r. ⌜ calledOf r ≡ x ⌝ }
+{
+    let realm = x.realm;
+    let answer = x.answer;
+    match answer {
+        Answer::Number(i) => Reply {
+            realm,
+            kind: NUMBER,
+            number: i,
+        },
+        Answer::OkRun(run) => Reply {
+            realm,
+            kind: OK_RUN,
+            number: run as u16,
+        },
+        Answer::Ok => Reply {
+            realm,
+            kind: OK,
+            number: 0,
+        },
+        Answer::Refused(number) => Reply {
+            realm,
+            kind: REFUSED,
+            number: number as u16,
+        },
+    }
+}
+
+// Adds a term or takes a step, if the tables hold together. Nothing is required of what is lent.
+#[no_mangle]
+pub extern "C" fn pogandir_call(
+    h: Realm,
+    terms: &mut [u64],
+    runs: &mut [u32],
+    wire: &mut [u64],
+    list: &mut [Entry],
+    q: Record,
+) -> Reply
+    ensures { λ r. ⌜ outcome (calledOf r) (now (terms .exit)) (now (runs .exit)) (now (wire .exit)) (now (list .exit)) ≡ lentCall (tables h (now (terms .entry)) (now (runs .entry)) (now (wire .entry)) (now (list .entry))) (callOf q) ⌝ }
+{
+    reply_of(call(h, terms, runs, wire, list, call_of(q)))
+}

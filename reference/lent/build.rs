@@ -1,0 +1,12 @@
+//! Links the proved engine's archive, which `rt staticlib exported` writes.
+
+use std::env;
+use std::path::PathBuf;
+
+fn main() {
+    let here = PathBuf::from(env::var("CARGO_MANIFEST_DIR").unwrap());
+    let archive = here.join("../../target/staticlib");
+    println!("cargo:rustc-link-search=native={}", archive.display());
+    println!("cargo:rustc-link-lib=static=exported");
+    println!("cargo:rerun-if-changed={}", archive.join("libexported.a").display());
+}

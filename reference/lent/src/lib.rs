@@ -1,0 +1,163 @@
+//! The proved engine's public call, on tables of this program: `pogandir_call`
+//! of the crate `exported`, declared again and wrapped.
+//!
+//! Nothing checks the declarations against the engine's source: they follow
+//! `crates/exported/src/lib.rt`, `crates/realm/src/header.rt` and
+//! `crates/replay/src/entry.rt`. The call requires nothing of what it is lent.
+
+use reference::file::{Header, Record};
+
+pub const TERM_PLACES: usize = 512;
+pub const RUN_WORDS: usize = 448;
+pub const WIRE_WORDS: usize = 8;
+pub const CACHE_PLACES: usize = 16;
+
+#[repr(C)]
+#[derive(Clone, Copy, Debug, PartialEq, Eq)]
+pub struct Realm {
+    pub n: u8,
+    pub flags: u16,
+    pub ticket_life: u32,
+    pub authenticator_life: u32,
+    pub clock: u32,
+    pub terms: usize,
+    pub runs: usize,
+    pub entries: usize,
+}
+
+#[repr(C)]
+#[derive(Clone, Copy, Debug, Default, PartialEq, Eq)]
+pub struct Entry {
+    pub b: u16,
+    pub k: u16,
+    pub ta: u32,
+}
+
+#[repr(C)]
+#[derive(Clone, Copy, Debug, Default)]
+struct Question {
+    adds: bool,
+    kind: u8,
+    l: u16,
+    r: u16,
+    step: u8,
+    run: u8,
+    a: u8,
+    b: u8,
+    m: u16,
+    t: u32,
+}
+
+#[repr(C)]
+struct Reply {
+    realm: Realm,
+    kind: u8,
+    number: u16,
+}
+
+extern "C" {
+    // A slice is a pointer and then a length.
+    fn pogandir_call(
+        realm: Realm,
+        terms: *mut u64,
+        terms_length: usize,
+        runs: *mut u32,
+        runs_length: usize,
+        wire: *mut u64,
+        wire_length: usize,
+        cache: *mut Entry,
+        cache_length: usize,
+        question: Question,
+    ) -> Reply;
+}
+
+#[derive(Clone, Copy, Debug, PartialEq, Eq)]
+pub enum Answer {
+    Number(u16),
+    OkRun(u8),
+    Ok,
+    Refused(u8),
+}
+
+/// A realm and its tables. They are of any length: the call looks at that.
+#[derive(Clone, Debug, PartialEq, Eq)]
+pub struct Tables {
+    pub realm: Realm,
+    pub terms: Vec<u64>,
+    pub runs: Vec<u32>,
+    pub wire: Vec<u64>,
+    pub cache: Vec<Entry>,
+}
+
+impl Tables {
+    pub fn new(header: &Header) -> Tables {
+        let realm = Realm {
+            n: header.principals,
+            flags: header.flags,
+            ticket_life: header.ticket_life,
+            authenticator_life: header.authenticator_life,
+            clock: 0,
+            terms: 0,
+            runs: 0,
+            entries: 0,
+        };
+        Tables {
+            realm,
+            terms: vec![0; TERM_PLACES],
+            runs: vec![0; RUN_WORDS],
+            wire: vec![0; WIRE_WORDS],
+            cache: vec![Entry::default(); CACHE_PLACES],
+        }
+    }
+
+    pub fn call(&mut self, record: &Record) -> Answer {
+        // SAFETY: each pointer and length is of one vector, borrowed for the
+        // call alone and no other's; the contract has no requires.
+        let reply = unsafe {
+            pogandir_call(
+                self.realm,
+                self.terms.as_mut_ptr(),
+                self.terms.len(),
+                self.runs.as_mut_ptr(),
+                self.runs.len(),
+                self.wire.as_mut_ptr(),
+                self.wire.len(),
+                self.cache.as_mut_ptr(),
+                self.cache.len(),
+                question(record),
+            )
+        };
+        self.realm = reply.realm;
+        match reply.kind {
+            0 => Answer::Number(reply.number),
+            1 => Answer::OkRun(reply.number as u8),
+            2 => Answer::Ok,
+            _ => Answer::Refused(reply.number as u8),
+        }
+    }
+
+    pub fn marks(&self) -> u32 {
+        self.wire.iter().map(|word| word.count_ones()).sum()
+    }
+}
+
+fn question(record: &Record) -> Question {
+    match record {
+        Record::Term(term) => Question {
+            adds: true,
+            kind: term.kind,
+            l: term.left,
+            r: term.right,
+            ..Question::default()
+        },
+        Record::Step(step) => Question {
+            step: step.step,
+            run: step.run,
+            a: step.a,
+            b: step.b,
+            m: step.message,
+            t: step.time,
+            ..Question::default()
+        },
+    }
+}

@@ -1,0 +1,167 @@
+//! Walk files through the proved engine's public call, record by record, beside
+//! the reference; and tables of other lengths.
+
+use std::fs;
+use std::path::PathBuf;
+
+use lent::{Answer, Tables};
+use reference::file::{read_header, read_record, Record, StepRecord};
+use reference::realm::{Answer as Expected, Realm};
+
+/// Each answer of a file, and the counts after it; how many records it has.
+fn compare(name: &str, file: &[u8]) -> usize {
+    let Ok((header, mut rest)) = read_header(file) else { return 0 };
+    let mut realm = Realm::new(header);
+    let mut tables = Tables::new(&header);
+    let mut records = 0;
+    while let Some(Ok((record, after))) = read_record(rest) {
+        rest = after;
+        records += 1;
+        let before = tables.clone();
+        let answer = tables.call(&record);
+        let expected = match realm.apply(&record) {
+            Ok(Expected::Term(number)) => Answer::Number(number),
+            Ok(Expected::Run(run)) => Answer::OkRun(run as u8),
+            Ok(Expected::Done) => Answer::Ok,
+            Err(refusal) => Answer::Refused(refusal.number()),
+        };
+        assert_eq!(answer, expected, "{name}, record {records}: {record:?}");
+        if let Answer::Refused(_) = answer {
+            assert_eq!(
+                tables, before,
+                "{name}, record {records}: a refused record changes nothing"
+            );
+        }
+        assert_eq!(tables.realm.terms, realm.terms.count(), "{name}, record {records}");
+        assert_eq!(tables.realm.runs, realm.runs.len(), "{name}, record {records}");
+        assert_eq!(tables.realm.clock, realm.clock, "{name}, record {records}");
+        assert_eq!(tables.marks() as usize, realm.wire.len(), "{name}, record {records}");
+        let entries = tables.cache[..tables.realm.entries].iter();
+        let entries: Vec<_> = entries.map(|e| (e.b, e.k, e.ta)).collect();
+        let expected = realm.cache.iter();
+        let expected: Vec<_> = expected
+            .map(|e| (u16::from(e.responder), u16::from(e.session_key), e.authenticator_time))
+            .collect();
+        assert_eq!(entries, expected, "{name}, record {records}");
+    }
+    records
+}
+
+fn example(name: &str) -> Vec<u8> {
+    let directory = PathBuf::from(env!("CARGO_MANIFEST_DIR")).join("../../examples");
+    fs::read(directory.join(name)).unwrap()
+}
+
+#[test]
+fn case_f() {
+    let file = example("case-f.walk");
+    let (header, mut rest) = read_header(&file).unwrap();
+    let mut tables = Tables::new(&header);
+    let mut answers = Vec::new();
+    while let Some(read) = read_record(rest) {
+        let (record, after) = read.unwrap();
+        rest = after;
+        answers.push(tables.call(&record));
+    }
+    use Answer::{Number, OkRun, Refused};
+    let expected = [
+        OkRun(0),
+        OkRun(1),
+        OkRun(0),
+        OkRun(2),
+        Number(17),
+        OkRun(2),
+        OkRun(0),
+        OkRun(3),
+        Refused(18),
+    ];
+    assert_eq!(answers, expected);
+    assert_eq!((tables.realm.runs, tables.marks(), tables.realm.entries), (4, 5, 1));
+}
+
+#[test]
+fn examples_agree_with_the_reference() {
+    let directory = PathBuf::from(env!("CARGO_MANIFEST_DIR")).join("../../examples");
+    let mut records = 0;
+    for entry in fs::read_dir(directory).unwrap() {
+        let path = entry.unwrap().path();
+        if path.extension().is_some_and(|extension| extension == "walk") {
+            records += compare(&path.display().to_string(), &fs::read(&path).unwrap());
+        }
+    }
+    assert!(records >= 50);
+}
+
+#[test]
+fn generated_files_agree_with_the_reference() {
+    let mut records = 0;
+    for number in 0..1000 {
+        let file = generator::walk_file(1, number);
+        records += compare(&format!("file {number}"), &file);
+    }
+    assert!(records >= 10_000);
+}
+
+/// "a table lent with other than its full number of places": 10, before all else.
+#[test]
+fn tables_of_other_lengths_are_refused() {
+    let (header, _) = read_header(b"HD\x03\0\0\0\0\0\x64\0\0\0\x0a").unwrap();
+    let opens = Record::Step(StepRecord { step: 1, a: 1, b: 2, ..StepRecord::default() });
+    let unknown = Record::Step(StepRecord { step: 99, ..StepRecord::default() });
+    let full = Tables::new(&header);
+    let mut short = vec![full.clone(); 8];
+    short[0].terms.pop();
+    short[1].terms.push(0);
+    short[2].runs.pop();
+    short[3].runs.push(0);
+    short[4].wire.pop();
+    short[5].wire.push(0);
+    short[6].cache.pop();
+    short[7].cache.push(full.cache[0]);
+    for tables in short {
+        for record in [&opens, &unknown] {
+            let mut after = tables.clone();
+            assert_eq!(after.call(record), Answer::Refused(10));
+            assert_eq!(after, tables);
+        }
+    }
+    assert_eq!(full.clone().call(&unknown), Answer::Refused(4));
+    assert_eq!(full.clone().call(&opens), Answer::OkRun(0));
+}
+
+/// Tables that do not hold together: 10, and every place as it was.
+#[test]
+fn broken_tables_are_refused() {
+    let file = example("case-f.walk");
+    let (header, mut rest) = read_header(&file).unwrap();
+    let mut whole = Tables::new(&header);
+    while let Some(Ok((record, after))) = read_record(rest) {
+        rest = after;
+        whole.call(&record);
+    }
+    let ticks = Record::Step(StepRecord { step: 7, time: 5, ..StepRecord::default() });
+    assert_eq!(whole.clone().call(&ticks), Answer::Ok);
+    let breaks: [fn(&mut Tables); 14] = [
+        |t| t.realm.n = 2,
+        |t| t.realm.flags = 1,
+        |t| t.realm.flags = 8,
+        |t| t.realm.ticket_life = 0,
+        |t| t.realm.authenticator_life = 0,
+        |t| t.realm.terms = 513,
+        |t| t.realm.terms -= 1,
+        |t| t.realm.runs = 65,
+        |t| t.realm.entries = 17,
+        |t| t.terms[1] = t.terms[0],
+        |t| t.wire[7] = 1 << 63,
+        |t| t.runs[0] = 9,
+        |t| t.cache[0].b = 3,
+        |t| t.cache[0].k = 96,
+    ];
+    for (number, broken) in breaks.iter().enumerate() {
+        let mut tables = whole.clone();
+        broken(&mut tables);
+        let before = tables.clone();
+        assert_eq!(tables.call(&ticks), Answer::Refused(10), "{number}");
+        assert_eq!(tables, before, "{number}");
+    }
+}
