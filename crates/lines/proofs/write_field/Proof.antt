@@ -1,0 +1,26 @@
+-- `lines::write_field` meets its contract: a text and a number, one after the other. Assumes nothing.
+use Rattle.lines.specs.Placed.{joined}
+use native.Mathlib.Omega.{arith}
+use borrow.Author.Needs.{needs}
+use Rattle.lines.proofs.write_field.Statement.{statement}
+use Rattle.lines.proofs.write_field.Tie as tie
+
+write-text-requires : tie.Need-write-text-requires
+write-text-requires c κs = search needs
+
+write-number-requires : tie.Need-write-number-requires
+write-number-requires c κs = search needs
+
+same-length : tie.Need-same-length
+same-length c = search needs
+
+returns : tie.Need-returns
+returns c =
+    let start = c .before .before .before .before .before .before .before .before .before .before in
+    let text = c .before .before .before .before .before .before .write-text .ensures in
+    let number = c .before .before .write-number .ensures in
+    (joined (omega (arith, start .pre)) text (number .0), omega (arith, text .offset, number .1))
+
+pub write-field-spec : {M : Type 1} → statement M
+write-field-spec =
+    tie.close (tie.spec write-text-requires write-number-requires same-length returns)
