@@ -1,0 +1,88 @@
+-- The listing of a file (document 01, "File and listing"): what stands in the file goes through the engine's own definitions
+-- and comes out as lines.
+-- Assumes nothing.
+use mathlib.Core.List.{List, [], _∷_, _++_}
+use Prim.Native.Nat.{ℕ, suc}
+use lib.Dec.{ltb}
+use lib.ListN.{length, drop, replicate}
+use Rattle.marks.specs.Marks.{size}
+use Rattle.terms.specs.Choice.{pick}
+use Rattle.exchange.specs.declared.call.Call.{Call}
+use Rattle.records.specs.declared.header.Header.{Header}
+use Rattle.records.specs.declared.header.Header.the-variants as header
+use Rattle.records.specs.Headers.{headerBytes, headerOf}
+use Rattle.records.specs.Calls.{Ending, ended, broken, Calls, callsOf}
+use Rattle.lines.specs.Lines.{headerLine, callLine, fileLine, endLine}
+use Rattle.lines.specs.Placed.{placed}
+use Rattle.realm.specs.declared.header.Opening.{Opening}
+use Rattle.realm.specs.declared.header.Opening.the-variants as opening
+use Rattle.realm.specs.declared.header.Realm.{Realm}
+use Rattle.realm.specs.Opening.{openingOf}
+use Rattle.realm.specs.Tables.{Tables, tables, empty}
+use Rattle.engine.specs.Call.{called}
+use Rattle.walkfile.specs.declared.Listing.{Listing}
+use Rattle.walkfile.specs.declared.Listing.the-variants.{Written, NoRoom}
+
+-- ---- the tables
+
+-- "A new hall has clock 0 and empty tables."
+unfoldable pub newTables : Realm → Tables
+newTables h = tables h (replicate 512 0) (replicate 448 0) (replicate 8 0) (replicate 16 empty)
+
+-- ---- the lines
+
+-- "If HD was accepted a last line gives R runs, W the number of terms on the wire, C cache entries and the clock."
+unfoldable pub tablesLine : Tables → List ℕ
+tablesLine t = endLine (t .realm .runs) (size (t .wire)) (t .realm .entries) (t .realm .clock)
+
+-- "1, 2 and 3 print `file` for the mark": a record that gives 3 has the number that comes next, and reading ends there.
+unfoldable pub lastLines : (number : ℕ) → Tables → Ending → List ℕ
+lastLines number t ended = tablesLine t
+lastLines number t broken = fileLine number 3 ++ tablesLine t
+
+-- "One line a record: its number from 0"; "Each call gets the tables that the one before it left".
+unfoldable pub callLines : (number : ℕ) → Tables → List Call → Ending → List ℕ
+callLines number t [] e = lastLines number t e
+callLines number t (c ∷ cs) e = callLine number c (called t c .answer) ++ callLines (suc number) (called t c .tables) cs e
+
+-- the lines of the calls from a place on
+abbrev pub linesOf : (number : ℕ) → Tables → Calls → List ℕ
+linesOf number t cs = callLines number t (cs .calls) (cs .ending)
+
+-- the file of a realm that was opened; its header is record 0
+unfoldable pub walkLines : Realm → List ℕ → List ℕ
+walkLines h bytes = headerLine ++ linesOf 1 (newTables h) (callsOf (drop headerBytes bytes))
+
+-- "2": "n outside 3 to 16, a flag on party 0 or at n and above, or a life of 0"
+abbrev pub openingLines : List ℕ → Opening → List ℕ
+openingLines bytes (opening.Refused refusal) = fileLine 0 refusal
+openingLines bytes (opening.Open h) = walkLines h bytes
+
+-- "1": "file over 65,536 bytes, or without a whole HD record first"
+abbrev pub headerLines : List ℕ → Header → List ℕ
+headerLines bytes (header.Refused refusal) = fileLine 0 refusal
+headerLines bytes (header.Read n flags ls la) = openingLines bytes (openingOf n flags ls la)
+
+unfoldable pub listingOf : List ℕ → List ℕ
+listingOf bytes = headerLines bytes (headerOf bytes)
+
+-- ---- the buffer
+
+-- room for any listing
+abbrev pub listingBytes : ℕ
+listingBytes = 224758
+
+-- what listing a file does to a buffer
+pub data Outcome : Type 0 where
+  written : (count : ℕ) (buffer : List ℕ) → Outcome
+  no-room : (buffer : List ℕ) → Outcome
+
+-- what the code gave back, beside the buffer
+abbrev pub outcome : Listing → List ℕ → Outcome
+outcome (Written count) buffer = written count buffer
+outcome NoRoom buffer = no-room buffer
+
+-- the listing stands at the start of a buffer that has room, and no other place is changed
+unfoldable pub listed : List ℕ → List ℕ → Outcome
+listed file buffer =
+    pick (ltb (length buffer) listingBytes) (no-room buffer) (written (length (listingOf file)) (placed buffer 0 (listingOf file)))

@@ -1,0 +1,65 @@
+-- What the crate promises beside the contract of `list`, which gives every byte that is written: Listing has its definitions, to be
+-- read first. Here is what the listing means: every whole TM and ST record of a file is one call of the list behind demand 3, the
+-- lines are those of that list's history, and the theorem holds of it.
+-- Assumes nothing.
+use Prim.Native.Nat.{ℕ, suc}
+use mathlib.Core.Path.{_≡_, refl}
+use mathlib.Core.List.{List, _++_}
+use lib.ListN.{length, drop}
+use Rattle.exchange.specs.declared.call.Call.{Call}
+use Rattle.exchange.specs.Agreement.{Demand3}
+use Rattle.exchange.specs.Engine.{Agrees, after, history}
+use Rattle.exchange.specs.Reading.{reading}
+use Rattle.records.specs.declared.header.Header.the-variants as headers
+use Rattle.records.specs.Fields.{Bytes, drop-bytes}
+use Rattle.records.specs.Headers.{headerBytes, headerOf}
+use Rattle.records.specs.Calls.{callsOf}
+use Rattle.records.specs.Promises.{calls-sized}
+use Rattle.lines.specs.Lines.{listing}
+use Rattle.realm.specs.declared.header.Opening.the-variants as openings
+use Rattle.realm.specs.declared.header.Realm.{Realm}
+use Rattle.realm.specs.Opening.{header, openingOf}
+use Rattle.simulation.specs.Values.{valuesOf}
+use Rattle.engine.specs.Engine.{New, engineOf}
+use Rattle.engine.specs.Promises.{demand3, tables-follow}
+use Rattle.walkfile.specs.Listing.{newTables, lastLines, walkLines, listingOf}
+use Rattle.walkfile.specs.Opened.{walkable, opened-new}
+use Rattle.walkfile.specs.Traced.{newestFirst, newest-sized, lines-traced}
+-- ---- the buffer
+
+-- a buffer that is too short stays as it is; otherwise the listing stands at its start, the bytes behind it are as they were, and
+-- the count is within the buffer
+pub use Rattle.walkfile.specs.Buffer.{short-kept, start-is, rest-kept, counts}
+
+-- ---- the list of calls
+
+-- the file's header opened this realm
+pub record Opens (bytes : List ℕ) (h : Realm) : Type 0 where
+  pub small : Bytes bytes
+  pub n : ℕ
+  pub flags : ℕ
+  pub ls : ℕ
+  pub la : ℕ
+  pub read : headerOf bytes ≡ headers.Read n flags ls la
+  pub opened : openingOf n flags ls la ≡ openings.Open h
+
+-- the calls of a file, the newest first
+abbrev pub callsIn : List ℕ → List Call
+callsIn bytes = newestFirst (callsOf (drop headerBytes bytes) .calls)
+
+module _ (bytes : List ℕ) (h : Realm) (o : Opens bytes h) where
+  -- its tables are those of a new realm
+  pub new : New (header h) (newTables h)
+  new = opened-new bytes (o .n) (o .flags) (o .ls) (o .la) h (o .small) (o .read) (o .opened)
+
+  -- Demand 3 holds of its calls,
+  pub walk-demand3 : Demand3 (header h) (history (header h) (engineOf (header h) (newTables h) new) (callsIn bytes))
+  walk-demand3 =
+      demand3 (header h) (newTables h) new (callsIn bytes) (newest-sized (callsOf (drop headerBytes bytes) .calls) (calls-sized (drop headerBytes bytes) (drop-bytes (o .small) headerBytes)))
+
+  -- and its listing is the lines of their history, the line of refusal 3 if a record gave it, and the last line.
+  pub walk-listed : listingOf bytes
+      ≡ listing (history (header h) (engineOf (header h) (newTables h) new) (callsIn bytes))
+      ++ lastLines (suc (length (callsIn bytes))) (after (header h) (engineOf (header h) (newTables h) new) (callsIn bytes)) (callsOf (drop headerBytes bytes) .ending)
+  unfolding listingOf walkLines listing
+  walk-listed = rw (o .read, o .opened) (lines-traced (header h) (newTables h) new (callsOf (drop headerBytes bytes) .calls) (callsOf (drop headerBytes bytes) .ending))
