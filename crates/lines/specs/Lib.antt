@@ -4,4 +4,3 @@ pub mod Lines
 pub mod Placed
 pub mod Decimal
 pub mod Lengths
-pub mod CaseF

@@ -1,6 +1,6 @@
 -- What the crate promises beside the contracts of its functions. A contract says `Wrote before at LINE after next`: the line
 -- was written into the buffer from offset `at` on, `next` is the offset after it, and no other place changed. Lines has the
--- lines themselves; CaseF has the paper's listing.
+-- lines themselves.
 -- Assumes nothing.
 use mathlib.Core.List.{List, _++_}
 use mathlib.Core.Path.{_≡_, sym, ap, _∙_}

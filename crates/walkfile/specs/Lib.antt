@@ -5,3 +5,4 @@ pub mod Opened
 pub mod Ways
 pub mod Buffer
 pub mod Traced
+pub mod CaseF

@@ -30,6 +30,11 @@ use Rattle.walkfile.specs.Traced.{newestFirst, newest-sized, lines-trace
 -- a buffer that is too short stays as it is; otherwise the listing stands at its start, the bytes behind it are as they were, and
 -- the count is within the buffer
 pub use Rattle.walkfile.specs.Buffer.{short-kept, start-is, rest-kept, counts}
+-- ---- the listing
+
+-- a file that refusal 1 or 2 turns away has one line, and case F has the paper's
+pub use Rattle.walkfile.specs.Ways.{header-refused, opening-refused}
+pub use Rattle.walkfile.specs.CaseF.{printed}
 
 -- ---- the list of calls
 
