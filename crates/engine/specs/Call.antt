@@ -32,26 +32,21 @@ abbrev pub numbered : terms.Answer → Answer
 numbered (terms.number i) = answers.Number i
 numbered (terms.refused k) = answers.Refused k
 
-abbrev pub numberOf : Answer → terms.Answer
-numberOf (answers.Number i) = terms.number i
-numberOf (answers.OkRun r) = terms.number r
-numberOf answers.Ok = terms.number 0
-numberOf (answers.Refused k) = terms.refused k
+-- the answer, the realm and the table of terms after TM, which reads and writes nothing else
+pub record Adding : Type 0 where
+  pub answer : Answer
+  pub realm : Realm
+  pub table : List ℕ
 
--- an answer to TM: a number or a refusal
-abbrev pub Plain : Answer → Type 0
-Plain (answers.Number i) = Unit {0}
-Plain (answers.OkRun r) = ⊥
-Plain answers.Ok = ⊥
-Plain (answers.Refused k) = Unit {0}
+abbrev pub adding : Realm → terms.Outcome → Adding
+adding h o = record { answer = numbered (o .answer); realm = withTerms h (o .count); table = o .table }
 
 -- what the code gave back, beside the lent table
-abbrev pub termed : Termed → List ℕ → terms.Outcome
-termed x ts = record { answer = numberOf (x .answer); count = x .realm .terms; table = ts }
+abbrev pub termed : Termed → List ℕ → Adding
+termed x ts = record { answer = x .answer; realm = x .realm; table = ts }
 
-abbrev pub withTerm : Tables → terms.Outcome → Outcome
-withTerm t o =
-    record { answer = numbered (o .answer); tables = tables (withTerms (t .realm) (o .count)) (o .table) (t .runs) (t .wire) (t .cache) }
+abbrev pub withTerm : Tables → Adding → Outcome
+withTerm t o = record { answer = o .answer; tables = tables (o .realm) (o .table) (t .runs) (t .wire) (t .cache) }
 
 -- ---- ST
 
@@ -66,7 +61,7 @@ stepped t s = byVerdict t (decided t s)
 -- ---- both
 
 unfoldable pub called : Tables → Call → Outcome
-called t (calls.Term kind l r) = withTerm t (addOf (t .realm .n) (t .terms) (t .realm .terms) (packed kind l r))
+called t (calls.Term kind l r) = withTerm t (adding (t .realm) (addOf (t .realm .n) (t .terms) (t .realm .terms) (packed kind l r)))
 called t (calls.Step step run a b m time) = stepped t (record { step = step; run = run; a = a; b = b; m = m; t = time })
 
 -- "10 | tables handed in do not hold together | any, before all else"

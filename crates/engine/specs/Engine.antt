@@ -38,7 +38,7 @@ use Rattle.simulation.specs.Values.{logged, valuesOf, callOf}
 use Rattle.effects.specs.Apply.{answerOf, written, applied}
 use Rattle.simulation.specs.Follows.{event-agrees, event-fits, refused-agrees}
 use Rattle.simulation.specs.Terms.{term-takes, term-agrees}
-use Rattle.engine.specs.Call.{withTerm, byVerdict, stepped, called}
+use Rattle.engine.specs.Call.{adding, withTerm, byVerdict, stepped, called}
 use Rattle.engine.specs.Kept.{Sound, call-kept}
 
 -- ---- what the engine keeps
@@ -123,7 +123,7 @@ module _ {R : Realm} {t : Tables} {ρ : Reading} (f : Follows R t ρ) (s : Step)
 module _ {R : Realm} {t : Tables} {ρ : Reading} (f : Follows R t ρ) (kind l r : ℕ) (size : Sized (calls.Term kind l r)) where
   by-adding : (a : terms.Answer) (count : ℕ) (ts : List ℕ)
       → addOf (t .realm .n) (t .terms) (t .realm .terms) (packed kind l r) ≡ record { answer = a; count = count; table = ts }
-      → let o = withTerm t (record { answer = a; count = count; table = ts }) in Matches R (o .tables) (read (accepts (o .answer)) (calls.Term kind l r) ρ)
+      → let o = withTerm t (adding (t .realm) (record { answer = a; count = count; table = ts })) in Matches R (o .tables) (read (accepts (o .answer)) (calls.Term kind l r) ρ)
   by-adding (terms.number i) count ts e =
       record {
         header-is = f .header-is;
@@ -135,7 +135,7 @@ module _ {R : Realm} {t : Tables} {ρ : Reading} (f : Follows R t ρ) (kind l r 
 
   adding-takes : (a : terms.Answer) (count : ℕ) (ts : List ℕ)
       → addOf (t .realm .n) (t .terms) (t .realm .terms) (packed kind l r) ≡ record { answer = a; count = count; table = ts }
-      → accepts (withTerm t (record { answer = a; count = count; table = ts }) .answer) ≡ true → Takes R (ρ .terms) (ρ .log) (calls.Term kind l r) Nothing
+      → accepts (withTerm t (adding (t .realm) (record { answer = a; count = count; table = ts })) .answer) ≡ true → Takes R (ρ .terms) (ρ .log) (calls.Term kind l r) Nothing
   adding-takes (terms.number i) count ts e a = term-takes (f .sound .together) kind l r size e ρ (f .agrees)
   adding-takes (terms.refused k) count ts e a = no-true a
 

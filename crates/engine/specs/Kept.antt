@@ -25,7 +25,7 @@ use Rattle.effects.specs.Apply.{written, applied}
 use Rattle.simulation.specs.Fits.{TickFits, clock-fits}
 use Rattle.simulation.specs.Follows.{event-together}
 use Rattle.simulation.specs.Terms.{term-together}
-use Rattle.engine.specs.Call.{withTerm, byVerdict, stepped, called}
+use Rattle.engine.specs.Call.{adding, withTerm, byVerdict, stepped, called}
 
 -- the tables hold together, and the clock is a time
 pub record Sound (t : Tables) : Type 0 where
@@ -62,7 +62,7 @@ module _ {t : Tables} (w : Sound t) where
 
   by-adding : (kind l r : ℕ) → Sized (calls.Term kind l r) → (a : terms.Answer) (count : ℕ) (ts : List ℕ)
       → addOf (t .realm .n) (t .terms) (t .realm .terms) (packed kind l r) ≡ record { answer = a; count = count; table = ts }
-      → Sound (withTerm t (record { answer = a; count = count; table = ts }) .tables)
+      → Sound (withTerm t (adding (t .realm) (record { answer = a; count = count; table = ts })) .tables)
   by-adding kind l r size (terms.number i) count ts e =
       record { together = term-together (w .together) kind l r size e; clock-fits = w .clock-fits }
   by-adding kind l r size (terms.refused k) count ts e =

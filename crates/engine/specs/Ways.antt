@@ -3,7 +3,7 @@
 use Prim.Native.Nat.{ℕ, suc, _+_, _<_}
 use native.Mathlib.Numerals.{add-one}
 use native.Mathlib.Omega.{arith}
-use mathlib.Core.Path.{_≡_, refl, sym, ap, ap₂, _∙_, subst}
+use mathlib.Core.Path.{_≡_, refl, sym, ap, subst}
 use mathlib.Core.Bool.{true, false}
 use mathlib.Core.List.{List}
 use Rattle.words.specs.Word.{packed}
@@ -11,19 +11,16 @@ use Rattle.terms.specs.Add.{addOf, Adds, adds}
 use Rattle.terms.specs.Valid.{Valid}
 use Rattle.terms.specs.Outcome as terms
 use Rattle.exchange.specs.declared.call.Answer.{Answer}
-use Rattle.exchange.specs.declared.call.Answer.the-variants as answers
 use Rattle.exchange.specs.declared.call.Call.{Call}
 use Rattle.exchange.specs.declared.call.Call.the-variants as calls
 use Rattle.exchange.specs.declared.event.Event.{Event}
-use Rattle.realm.specs.declared.header.Realm.{Realm}
 use Rattle.realm.specs.declared.input.Step.{Step}
 use Rattle.realm.specs.Check.{together}
 use Rattle.realm.specs.Tables.{Tables, tables}
 use Rattle.steps.specs.declared.take.Verdict.the-variants.{Takes, Refused}
 use Rattle.steps.specs.Decide.{decided}
 use Rattle.effects.specs.Apply.{refuse, applied}
-use Rattle.engine.specs.declared.call.Termed.{Termed}
-use Rattle.engine.specs.Call.{withTerms, numbered, numberOf, Plain, termed, withTerm, byVerdict, stepped, called, checked}
+use Rattle.engine.specs.Call.{Adding, adding, withTerm, byVerdict, stepped, called, checked}
 
 module _ (t : Tables) (s : Step) where
   pub step-refused : {k : ℕ} → decided t s ≡ Refused k → refuse t k ≡ stepped t s
@@ -51,20 +48,11 @@ module _ {n : ℕ} {ts : List ℕ} {count : ℕ} (v : Valid n ts count) (w : ℕ
       let a : Adds n ts count w (terms.accept i count′ ts′) = subst (Adds n ts count w) (sym e) (adds v w) in
       omega (arith, a .is .0, a .valid .room)
 
--- what came of adding a term to tables, by what the code gave back
-pub term-called : (t : Tables) (kind l r : ℕ) (x : Termed) (ts : List ℕ) → Plain (x .answer)
-    → termed x ts ≡ addOf (t .realm .n) (t .terms) (t .realm .terms) (packed kind l r) → x .realm ≡ withTerms (t .realm) (x .realm .terms)
-    → record { answer = x .answer; tables = tables (x .realm) ts (t .runs) (t .wire) (t .cache) } ≡ called t (calls.Term kind l r)
+-- what came of adding a term to tables
+pub term-called : (t : Tables) (kind l r : ℕ) {o : Adding} → o ≡ adding (t .realm) (addOf (t .realm .n) (t .terms) (t .realm .terms) (packed kind l r))
+    → withTerm t o ≡ called t (calls.Term kind l r)
 unfolding called
-term-called t kind l r x ts p e h =
-    ap₂ (λ (a : Answer) (realm : Realm). record { answer = a; tables = tables realm ts (t .runs) (t .wire) (t .cache) }) (sym (plain (x .answer) p)) h
-    ∙ ap (withTerm t) e
-  where
-    plain : (a : Answer) → Plain a → numbered (numberOf a) ≡ a
-    plain (answers.Number i) q = refl
-    plain (answers.OkRun i) q = absurd q
-    plain answers.Ok q = absurd q
-    plain (answers.Refused k) q = refl
+term-called t kind l r e = ap (withTerm t) e
 
 -- a step's call is its step
 pub step-called : (t : Tables) (step run a b m time : ℕ) → stepped t (record { step = step; run = run; a = a; b = b; m = m; t = time }) ≡ called t (calls.Step step run a b m time)

@@ -17,7 +17,7 @@ ghost use Rattle.terms.specs.Add.{addOf};
 ghost use Rattle.terms.specs.Valid.{Valid};
 ghost use Rattle.effects.specs.Apply.{after};
 ghost use Rattle.realm.specs.Tables.{tables, Together};
-ghost use Rattle.engine.specs.Call.{withTerms, Plain, termed, stepped, called};
+ghost use Rattle.engine.specs.Call.{termed, adding, stepped, called};
 
 // A realm after a term was added, and the answer.
 pub struct Termed {
@@ -28,7 +28,7 @@ pub struct Termed {
 // TM: adds a term.
 fn add_term(h: Realm, terms: &mut [u64], kind: u8, l: u16, r: u16) -> Termed
     requires { ⌜ Valid (h .n) (now terms) (h .terms) ⌝ }
-    ensures { λ x. ⌜ (termed x (now (terms .exit)) ≡ addOf (h .n) (now (terms .entry)) (h .terms) (packed kind l r)) × (x .realm ≡ withTerms h (x .realm .terms)) × Plain (x .answer) ⌝ }
+    ensures { λ x. ⌜ termed x (now (terms .exit)) ≡ adding h (addOf (h .n) (now (terms .entry)) (h .terms) (packed kind l r)) ⌝ }
 {
     let count = h.terms;
     match add(terms, count, h.n as u16, pack(kind, l, r)) {

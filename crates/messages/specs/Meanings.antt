@@ -5,22 +5,20 @@ use mathlib.Core.List.{List, [], _∷_, _++_}
 use mathlib.Core.Option.{some}
 use mathlib.Core.Path.{_≡_, refl, sym, ap, _∙_, subst}
 use native.Mathlib.Decide.{ℕ-discrete}
-use native.Mathlib.Nat.{le-refl}
 use native.Mathlib.Numerals.{add-one}
 use native.Mathlib.Omega.{arith}
-use lib.ListN.{length, getD, length-append, List·getD-append}
+use lib.ListN.{length, length-append, List·getD-append}
 use Rattle.terms.specs.declared.table.Found.{Found}
 use Rattle.terms.specs.declared.table.Found.the-variants.{At, Nothing}
 use Rattle.drafts.specs.Writes.{Writes}
 use Rattle.terms.specs.Meaning.{messageAt, messages-same}
 use Rattle.terms.specs.Message.{Message, principal, time, nonce, key, pair, encrypted}
 use Rattle.terms.specs.Number.{wordIn, word-at}
-use Rattle.terms.specs.Rules.{Agree}
 use Rattle.terms.specs.Table.{findOf, found-at}
 use Rattle.terms.specs.Valid.{Terms}
 use Rattle.messages.specs.Entered.{withBy, withWord, withTerm, entered}
 use Rattle.messages.specs.Listed.{termAt, insert, add, insert-present, insert-new}
-use Rattle.messages.specs.Standing.{Standing, EnteredIs, entered-is, key-entered, pair-entered, encrypted-entered, longer-with, longer-entered, standing-longer}
+use Rattle.messages.specs.Standing.{EnteredIs, entered-is, key-entered, pair-entered, encrypted-entered, longer-with, longer-entered, standing-longer}
 
 -- the messages of the first `count` terms
 unfoldable pub meanings : List ℕ → (count : ℕ) → List Message

@@ -3,12 +3,12 @@
 -- lines are those of that list's history, and the theorem holds of it.
 -- Assumes nothing.
 use Prim.Native.Nat.{ℕ, suc}
-use mathlib.Core.Path.{_≡_, refl}
+use mathlib.Core.Path.{_≡_}
 use mathlib.Core.List.{List, _++_}
 use lib.ListN.{length, drop}
 use Rattle.exchange.specs.declared.call.Call.{Call}
 use Rattle.exchange.specs.Agreement.{Demand3}
-use Rattle.exchange.specs.Engine.{Agrees, after, history}
+use Rattle.exchange.specs.Engine.{AllSized, Agrees, after, history}
 use Rattle.exchange.specs.Reading.{reading}
 use Rattle.records.specs.declared.header.Header.the-variants as headers
 use Rattle.records.specs.Fields.{Bytes, drop-bytes}
@@ -23,7 +23,7 @@ use Rattle.simulation.specs.Values.{valuesOf}
 use Rattle.engine.specs.Engine.{New, engineOf}
 use Rattle.engine.specs.Promises.{demand3, tables-follow}
 use Rattle.walkfile.specs.Listing.{newTables, lastLines, walkLines, listingOf}
-use Rattle.walkfile.specs.Opened.{walkable, opened-new}
+use Rattle.walkfile.specs.Opened.{opened-new}
 use Rattle.walkfile.specs.Traced.{newestFirst, newest-sized, lines-traced}
 -- ---- the buffer
 
@@ -57,10 +57,17 @@ module _ (bytes : List ℕ) (h : Realm) (o : Opens bytes h) where
   pub new : New (header h) (newTables h)
   new = opened-new bytes (o .n) (o .flags) (o .ls) (o .la) h (o .small) (o .read) (o .opened)
 
+  sized : AllSized (callsIn bytes)
+  sized = newest-sized (callsOf (drop headerBytes bytes) .calls) (calls-sized (drop headerBytes bytes) (drop-bytes (o .small) headerBytes))
+
   -- Demand 3 holds of its calls,
   pub walk-demand3 : Demand3 (header h) (history (header h) (engineOf (header h) (newTables h) new) (callsIn bytes))
-  walk-demand3 =
-      demand3 (header h) (newTables h) new (callsIn bytes) (newest-sized (callsOf (drop headerBytes bytes) .calls) (calls-sized (drop headerBytes bytes) (drop-bytes (o .small) headerBytes)))
+  walk-demand3 = demand3 (header h) (newTables h) new (callsIn bytes) sized
+
+  -- its tables agree with what is read of them,
+  pub walk-agrees : Agrees (header h) (valuesOf (after (header h) (engineOf (header h) (newTables h) new) (callsIn bytes)))
+      (reading (history (header h) (engineOf (header h) (newTables h) new) (callsIn bytes)))
+  walk-agrees = tables-follow (header h) (newTables h) new (callsIn bytes) sized
 
   -- and its listing is the lines of their history, the line of refusal 3 if a record gave it, and the last line.
   pub walk-listed : listingOf bytes

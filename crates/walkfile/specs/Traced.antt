@@ -4,10 +4,9 @@
 use Prim.Native.Nat.{ℕ, suc}
 use mathlib.Core.Path.{_≡_, refl, sym, ap, _∙_}
 use mathlib.Core.List.{List, [], _∷_, _++_, append-assoc}
-use lib.ListN.{length, drop}
+use lib.ListN.{length}
 use Rattle.exchange.specs.declared.call.Call.{Call}
 use Rattle.exchange.specs.Engine.{AllSized, Engine, after, history}
-use Rattle.exchange.specs.Reading.{History}
 use Rattle.exchange.specs.Realm.{Realm}
 use Rattle.records.specs.Calls.{Ending}
 use Rattle.lines.specs.Lines.{callLine, listing}

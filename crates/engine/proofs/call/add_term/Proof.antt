@@ -1,9 +1,9 @@
 -- `engine::call::add_term` meets its contract: by the contract of adding; a number is below 512. Assumes nothing.
-use Rattle.engine.specs.Ways.{one-more}
-use Rattle.engine.specs.Ways.{number-below}
+use Rattle.engine.specs.Call.{adding}
+use Rattle.engine.specs.Ways.{one-more, number-below}
 use Rattle.terms.specs.Add.{outcome, addOf}
 use native.Mathlib.Omega.{arith}
-use mathlib.Core.Path.{_≡_, refl, sym, ap, _∙_}
+use mathlib.Core.Path.{sym, ap, _∙_}
 use borrow.Author.Needs.{needs}
 use Rattle.engine.proofs.call.add_term.Statement.{statement}
 use Rattle.engine.proofs.call.add_term.Tie as tie
@@ -40,21 +40,21 @@ same-length c = search needs
 
 returns : tie.Need-returns
 returns c = let a = c .before .before .before .before .before .before .before .before .before .before .args in
-    (ap (λ r. outcome r (a .h .terms) (c .before .before .before .before .before .add .last .0)) (sym (c .before .i .given .1)) ∙ c .before .before .before .before .before .add .ensures ∙ ap (addOf (a .h .n) (a .terms .now) (a .h .terms)) (c .before .before .before .before .before .before .pack .ensures), refl, tt)
+    ap (adding (a .h)) (ap (λ r. outcome r (a .h .terms) (c .before .before .before .before .before .add .last .0)) (sym (c .before .i .given .1)) ∙ c .before .before .before .before .before .add .ensures ∙ ap (addOf (a .h .n) (a .terms .now) (a .h .terms)) (c .before .before .before .before .before .before .pack .ensures))
 
 same-length-2 : tie.Need-same-length-2
 same-length-2 c = search needs
 
 returns-2 : tie.Need-returns-2
 returns-2 c = let a = c .before .before .before .before .before .before .before .before .before .before .args in
-    (one-more _ (a .h .terms) _ ∙ ap (λ r. outcome r (a .h .terms) (c .before .before .before .before .before .add .last .0)) (sym (c .before .i2 .given .1)) ∙ c .before .before .before .before .before .add .ensures ∙ ap (addOf (a .h .n) (a .terms .now) (a .h .terms)) (c .before .before .before .before .before .before .pack .ensures), refl, tt)
+    ap (adding (a .h)) (one-more _ (a .h .terms) _ ∙ ap (λ r. outcome r (a .h .terms) (c .before .before .before .before .before .add .last .0)) (sym (c .before .i2 .given .1)) ∙ c .before .before .before .before .before .add .ensures ∙ ap (addOf (a .h .n) (a .terms .now) (a .h .terms)) (c .before .before .before .before .before .before .pack .ensures))
 
 same-length-3 : tie.Need-same-length-3
 same-length-3 c = search needs
 
 returns-3 : tie.Need-returns-3
 returns-3 c = let a = c .before .before .before .before .before .before .before .before .before .before .args in
-    (ap (λ r. outcome r (a .h .terms) (c .before .before .before .before .before .add .last .0)) (sym (c .before .number .given .1)) ∙ c .before .before .before .before .before .add .ensures ∙ ap (addOf (a .h .n) (a .terms .now) (a .h .terms)) (c .before .before .before .before .before .before .pack .ensures), refl, tt)
+    ap (adding (a .h)) (ap (λ r. outcome r (a .h .terms) (c .before .before .before .before .before .add .last .0)) (sym (c .before .number .given .1)) ∙ c .before .before .before .before .before .add .ensures ∙ ap (addOf (a .h .n) (a .terms .now) (a .h .terms)) (c .before .before .before .before .before .before .pack .ensures))
 
 pub add-term-spec : {M : Type 1} → statement M
 add-term-spec =

@@ -1,9 +1,8 @@
 -- `engine::call::call` meets its contract: by the contract of the call that its kind makes. Assumes nothing.
-use Rattle.engine.specs.Ways.{step-called}
-use Rattle.engine.specs.Ways.{term-called}
+use Rattle.engine.specs.Ways.{step-called, term-called}
 use Rattle.engine.specs.Call.{called}
 use Rattle.realm.specs.Tables.{tables}
-use mathlib.Core.Path.{_≡_, sym, ap, _∙_}
+use mathlib.Core.Path.{sym, ap, _∙_}
 use borrow.Author.Needs.{needs}
 use Rattle.engine.proofs.call.call.Statement.{statement}
 use Rattle.engine.proofs.call.call.Tie as tie
@@ -25,8 +24,7 @@ same-length c = search needs
 
 returns : tie.Need-returns
 returns c = let a = c .before .before .before .before .before .before .before .before .before .before .before .args in
-    let e = c .before .before .before .add-term .ensures in
-    term-called (tables (a .h) (a .terms .now) (a .runs .now) (a .wire .now) (a .cache)) _ _ _ (c .before .before .before .add-term .result) _ (e .2) (e .0) (e .1)
+    term-called (tables (a .h) (a .terms .now) (a .runs .now) (a .wire .now) (a .cache)) _ _ _ (c .before .before .before .add-term .ensures)
     ∙ ap (called (tables (a .h) (a .terms .now) (a .runs .now) (a .wire .now) (a .cache))) (sym (c .before .before .before .before .before .before .c .given .1))
 
 same-length-2 : tie.Need-same-length-2

@@ -1,6 +1,5 @@
 -- `realm::input::input_refusal` meets its contract: by the law for each way out. Assumes nothing.
-use Rattle.realm.specs.Input.{usesOf, unusedZero, inRange}
-use mathlib.Core.Bool.{true, false}
+use Rattle.realm.specs.Input.{unusedZero, inRange}
 use Rattle.realm.specs.Input.{no-step-below, no-step-above, not-zero, not-in-range, passes}
 use borrow.Author.Tests.{not-true, not-false}
 use native.Mathlib.Omega.{arith}

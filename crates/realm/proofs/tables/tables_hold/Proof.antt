@@ -3,7 +3,7 @@ use Rattle.realm.specs.Tables.{tables}
 use Rattle.realm.specs.Check.{together, together-is}
 use lib.ListN.{length}
 use mathlib.Core.Path.{_≡_, sym, _∙_}
-use mathlib.Core.Bool.{Bool, _&&_}
+use mathlib.Core.Bool.{_&&_}
 use Prim.Native.Nat.{_^_, _<_}
 use borrow.Author.Needs.{needs}
 use Rattle.realm.proofs.tables.tables_hold.Statement.{statement}

@@ -2,7 +2,7 @@
 use native.Mathlib.Omega.{arith}
 use Rattle.realm.specs.Check.{other-words, eight-words}
 use Rattle.marks.specs.Within.{within}
-use mathlib.Core.Path.{sym, ap, _∙_}
+use mathlib.Core.Path.{ap, _∙_}
 use borrow.Author.Needs.{needs}
 use Rattle.realm.proofs.tables.wire_holds.Statement.{statement}
 use Rattle.realm.proofs.tables.wire_holds.Tie as tie
