@@ -1,17 +1,17 @@
 // What an event sends.
 use drafts::Node;
 use exchange::event::Event;
-use forms::lay::AUTHENTICATOR_ROOT;
-use forms::lay::CONFIRMATION_ROOT;
-use forms::lay::KEY_ROOT;
-use forms::lay::REPLY_ROOT;
-use forms::lay::REQUEST_ROOT;
-use forms::lay::TICKET_ROOT;
-use forms::lay::lay_authenticator;
-use forms::lay::lay_confirmation;
-use forms::lay::lay_issue;
-use forms::lay::lay_key;
-use forms::lay::lay_request;
+use layouts::AUTHENTICATOR_ROOT;
+use layouts::CONFIRMATION_ROOT;
+use layouts::KEY_ROOT;
+use layouts::REPLY_ROOT;
+use layouts::REQUEST_ROOT;
+use layouts::TICKET_ROOT;
+use layouts::lay_authenticator;
+use layouts::lay_confirmation;
+use layouts::lay_issue;
+use layouts::lay_key;
+use layouts::lay_request;
 use sending::Sent;
 use sending::send;
 ghost use mathlib.Core.Path.{_≡_};

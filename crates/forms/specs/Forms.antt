@@ -9,18 +9,18 @@ use lib.Dec.{eqb}
 use Rattle.exchange.specs.Terms.{given}
 use Rattle.terms.specs.Choice.{pick, both}
 use Rattle.terms.specs.Message.{Message}
-use Rattle.forms.specs.declared.open.Authenticator.{Authenticator}
-use Rattle.forms.specs.declared.open.Authenticator.the-variants as authenticators
-use Rattle.forms.specs.declared.open.Confirmation.{Confirmation}
-use Rattle.forms.specs.declared.open.Confirmation.the-variants as confirmations
-use Rattle.forms.specs.declared.open.Delivery.{Delivery}
-use Rattle.forms.specs.declared.open.Delivery.the-variants as deliveries
-use Rattle.forms.specs.declared.open.Reply.{Reply}
-use Rattle.forms.specs.declared.open.Reply.the-variants as replies
-use Rattle.forms.specs.declared.open.Request.{Request}
-use Rattle.forms.specs.declared.open.Request.the-variants as requests
-use Rattle.forms.specs.declared.open.Ticket.{Ticket}
-use Rattle.forms.specs.declared.open.Ticket.the-variants as tickets
+use Rattle.forms.specs.declared.Authenticator.{Authenticator}
+use Rattle.forms.specs.declared.Authenticator.the-variants as authenticators
+use Rattle.forms.specs.declared.Confirmation.{Confirmation}
+use Rattle.forms.specs.declared.Confirmation.the-variants as confirmations
+use Rattle.forms.specs.declared.Delivery.{Delivery}
+use Rattle.forms.specs.declared.Delivery.the-variants as deliveries
+use Rattle.forms.specs.declared.Reply.{Reply}
+use Rattle.forms.specs.declared.Reply.the-variants as replies
+use Rattle.forms.specs.declared.Request.{Request}
+use Rattle.forms.specs.declared.Request.the-variants as requests
+use Rattle.forms.specs.declared.Ticket.{Ticket}
+use Rattle.forms.specs.declared.Ticket.the-variants as tickets
 use Rattle.forms.specs.Layers.{PRINCIPAL, TIME, NONCE, LONG_TERM_KEY, SESSION_KEY, PAIR, ofKind, operands, atom, first, under, _▸_}
 
 -- step 3: "m is [a, b, any nonce N]"

@@ -4,10 +4,10 @@ use mathlib.Core.Path.{_≡_}
 use mathlib.Core.List.{List}
 use mathlib.Core.Option.{Option, none, some}
 use Prim.Native.Nat.{ℕ, _<_}
-use Rattle.forms.specs.declared.open.Opened.{Opened}
-use Rattle.forms.specs.declared.open.Opened.the-variants as opened
-use Rattle.forms.specs.declared.open.OpenedTime.{OpenedTime}
-use Rattle.forms.specs.declared.open.OpenedTime.the-variants as openedTime
+use Rattle.forms.specs.declared.Opened.{Opened}
+use Rattle.forms.specs.declared.Opened.the-variants as opened
+use Rattle.forms.specs.declared.OpenedTime.{OpenedTime}
+use Rattle.forms.specs.declared.OpenedTime.the-variants as openedTime
 use Rattle.terms.specs.Meaning.{messageAt}
 use Rattle.terms.specs.Message.{Message}
 use Rattle.terms.specs.Valid.{Valid}

@@ -10,10 +10,10 @@ use Rattle.drafts.specs.Draft.{draftMessage, draftFits}
 use Rattle.terms.specs.Meaning.{messageAt}
 use Rattle.terms.specs.Message.{Message}
 use Rattle.drafts.specs.declared.Node.{Node}
-use Rattle.forms.specs.Drafts.{REQUEST_ROOT, REPLY_ROOT, TICKET_ROOT, AUTHENTICATOR_ROOT, CONFIRMATION_ROOT, KEY_ROOT}
-use Rattle.forms.specs.Drafts.{requestDraft, issueDraft, authenticatorDraft, confirmationDraft, keyDraft}
-use Rattle.forms.specs.Promises.{request-at, reply-at, ticket-at, authenticator-at, confirmation-at, key-at}
-use Rattle.forms.specs.Promises.{request-fits, issue-fits, authenticator-fits, confirmation-fits, key-fits}
+use Rattle.layouts.specs.Drafts.{REQUEST_ROOT, REPLY_ROOT, TICKET_ROOT, AUTHENTICATOR_ROOT, CONFIRMATION_ROOT, KEY_ROOT}
+use Rattle.layouts.specs.Drafts.{requestDraft, issueDraft, authenticatorDraft, confirmationDraft, keyDraft}
+use Rattle.layouts.specs.Promises.{request-at, reply-at, ticket-at, authenticator-at, confirmation-at, key-at}
+use Rattle.layouts.specs.Promises.{request-fits, issue-fits, authenticator-fits, confirmation-fits, key-fits}
 use Rattle.sending.specs.Promises.{send-none, send-once}
 use Rattle.sending.specs.Send.{AllWrites, Sendable, Sending, sent, sendOf}
 use Rattle.exchange.specs.declared.event.Event.{Event}

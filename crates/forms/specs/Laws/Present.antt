@@ -11,8 +11,8 @@ use Rattle.terms.specs.Meaning.{keyOf, messageOf, messageAt, message-at, key-at
 use Rattle.terms.specs.Message.{Message, key, pair, encrypted}
 use Rattle.terms.specs.Rules.{termAt, Fields}
 use Rattle.terms.specs.Valid.{fields-at}
-use Rattle.forms.specs.declared.open.Opened.{Opened}
-use Rattle.forms.specs.declared.open.OpenedTime.{OpenedTime}
+use Rattle.forms.specs.declared.Opened.{Opened}
+use Rattle.forms.specs.declared.OpenedTime.{OpenedTime}
 use Rattle.forms.specs.Layers.{PAIR, ENCRYPTED, kind, number, operands, ofKind, atom, first, under}
 use Rattle.forms.specs.Present.{Present, read, readTime, Opens}
 use Rattle.forms.specs.Laws.Layers.{of-kind, layer-other, layer-some}

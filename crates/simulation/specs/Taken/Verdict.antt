@@ -13,14 +13,14 @@ use Rattle.deduction.specs.Known.{Known}
 use Rattle.deduction.specs.Promises.{function-exact}
 use Rattle.forms.specs.Forms.{requestIn, replyIn, deliveryIn, confirmationIn}
 use Rattle.forms.specs.Promises.{is-request, is-reply, is-delivery, is-confirmation}
-use Rattle.forms.specs.declared.open.Confirmation.{Confirmation}
-use Rattle.forms.specs.declared.open.Confirmation.the-variants as confirmations
-use Rattle.forms.specs.declared.open.Delivery.{Delivery}
-use Rattle.forms.specs.declared.open.Delivery.the-variants as deliveries
-use Rattle.forms.specs.declared.open.Reply.{Reply}
-use Rattle.forms.specs.declared.open.Reply.the-variants as replies
-use Rattle.forms.specs.declared.open.Request.{Request}
-use Rattle.forms.specs.declared.open.Request.the-variants as requests
+use Rattle.forms.specs.declared.Confirmation.{Confirmation}
+use Rattle.forms.specs.declared.Confirmation.the-variants as confirmations
+use Rattle.forms.specs.declared.Delivery.{Delivery}
+use Rattle.forms.specs.declared.Delivery.the-variants as deliveries
+use Rattle.forms.specs.declared.Reply.{Reply}
+use Rattle.forms.specs.declared.Reply.the-variants as replies
+use Rattle.forms.specs.declared.Request.{Request}
+use Rattle.forms.specs.declared.Request.the-variants as requests
 use Rattle.replay.specs.Cache.{entries}
 use Rattle.replay.specs.declared.entry.Entry.{Entry}
 use Rattle.runs.specs.AllOf.{five}

@@ -6,7 +6,7 @@ use lib.Dec.{eqb}
 use borrow.Author.Tests.{not-true, not-false}
 use Rattle.terms.specs.Meaning.{messageAt}
 use Rattle.forms.specs.Forms.{deliveryIn}
-use Rattle.forms.specs.declared.open.Delivery.the-variants as deliveries
+use Rattle.forms.specs.declared.Delivery.the-variants as deliveries
 use Rattle.steps.specs.Conditions.{derivableAt}
 use Rattle.steps.specs.Laws.Take.{no-delivery, delivery-to-another, delivery-underivable, delivery-barred, delivery-taken, delivery-key-most}
 use borrow.Author.Needs.{needs}

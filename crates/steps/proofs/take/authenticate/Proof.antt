@@ -6,7 +6,7 @@ use lib.Dec.{eqb}
 use borrow.Author.Tests.{not-true, not-false}
 use Rattle.terms.specs.Meaning.{messageAt}
 use Rattle.forms.specs.Forms.{replyIn}
-use Rattle.forms.specs.declared.open.Reply.the-variants as replies
+use Rattle.forms.specs.declared.Reply.the-variants as replies
 use Rattle.steps.specs.Conditions.{derivableAt}
 use Rattle.steps.specs.Laws.Take.{no-reply, reply-to-another, reply-underivable, reply-over, reply-taken, reply-key-most}
 use borrow.Author.Needs.{needs}

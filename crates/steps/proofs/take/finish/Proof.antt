@@ -5,7 +5,7 @@ use lib.Dec.{eqb}
 use borrow.Author.Tests.{not-true, not-false}
 use Rattle.terms.specs.Meaning.{messageAt}
 use Rattle.forms.specs.Forms.{confirmationIn}
-use Rattle.forms.specs.declared.open.Confirmation.the-variants as confirmations
+use Rattle.forms.specs.declared.Confirmation.the-variants as confirmations
 use Rattle.steps.specs.Conditions.{derivableAt}
 use Rattle.steps.specs.Laws.Take.{no-confirmation, confirmation-to-another, confirmation-underivable, confirmation-over, confirmation-taken}
 use borrow.Author.Needs.{needs}

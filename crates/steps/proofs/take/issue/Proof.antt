@@ -6,7 +6,7 @@ use lib.Dec.{eqb}
 use borrow.Author.Tests.{not-true, not-false}
 use Rattle.terms.specs.Meaning.{messageAt}
 use Rattle.forms.specs.Forms.{requestIn}
-use Rattle.forms.specs.declared.open.Request.the-variants as requests
+use Rattle.forms.specs.declared.Request.the-variants as requests
 use Rattle.steps.specs.Laws.Take.{no-room-to-issue, no-request, request-barred, request-underivable, request-taken, request-in-range}
 use borrow.Author.Needs.{needs}
 use Rattle.steps.proofs.take.issue.Statement.{statement}
