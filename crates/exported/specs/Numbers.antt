@@ -1,4 +1,4 @@
--- What the numbers of an exported call mean.
+-- What the numbers of an exported call, and of a listing, mean.
 -- Assumes nothing.
 use Prim.Native.Nat.{ℕ}
 use mathlib.Core.Path.{_≡_, sym, ap}
@@ -10,6 +10,9 @@ use Rattle.exchange.specs.declared.call.Answer.the-variants.{Number, OkRun, Ok,
 use Rattle.exchange.specs.declared.call.Call.{Call}
 use Rattle.exchange.specs.declared.call.Call.the-variants.{Term, Step}
 use Rattle.calls.specs.declared.Called.{Called}
+use Rattle.walkfile.specs.declared.Listing.{Listing}
+use Rattle.walkfile.specs.declared.Listing.the-variants.{Written, NoRoom}
+use Rattle.exported.specs.declared.Listed.{Listed}
 use Rattle.exported.specs.declared.Record.{Record}
 use Rattle.exported.specs.declared.Reply.{Reply}
 
@@ -22,6 +25,9 @@ answerOf kind number = pick (eqb kind 0) (Number number) (pick (eqb kind 1) (OkR
 
 abbrev pub calledOf : Reply → Called
 calledOf r = record { realm = r .realm; answer = answerOf (r .kind) (r .number) }
+
+abbrev pub listingFrom : Listed → Listing
+listingFrom r = pick (r .fits) (Written (r .count)) NoRoom
 
 -- ---- laws
 

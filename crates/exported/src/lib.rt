@@ -1,15 +1,18 @@
-// The public call for programs in other languages. An exported function takes numbers, slices and structs of numbers, so a call
-// and its answer are structs of numbers here.
+// The public call, and the listing of a walk file, for programs in other languages. An exported function takes numbers, slices
+// and structs of numbers, so calls and answers are structs of numbers here.
 use calls::Called;
 use calls::call;
 use exchange::call::Answer;
 use exchange::call::Call;
 use realm::header::Realm;
 use replay::entry::Entry;
+use walkfile::Listing;
+use walkfile::list;
 ghost use mathlib.Core.Path.{_≡_};
 ghost use Rattle.realm.specs.Tables.{tables};
 ghost use Rattle.calls.specs.Lent.{outcome, lentCall};
-ghost use Rattle.exported.specs.Numbers.{callOf, calledOf};
+ghost use Rattle.walkfile.specs.Listing as listing;
+ghost use Rattle.exported.specs.Numbers.{callOf, calledOf, listingFrom};
 
 // A call: a term where `adds`, with the next three fields, or else a step, with the others.
 // Fields that are not used may hold anything.
@@ -106,4 +109,25 @@ pub extern "C" fn pogandir_call(
     ensures { λ r. ⌜ outcome (calledOf r) (now (terms .exit)) (now (runs .exit)) (now (wire .exit)) (now (list .exit)) ≡ lentCall (tables h (now (terms .entry)) (now (runs .entry)) (now (wire .entry)) (now (list .entry))) (callOf q) ⌝ }
 {
     reply_of(call(h, terms, runs, wire, list, call_of(q)))
+}
+
+// Whether the buffer has room for any listing, and how many of its bytes are the listing's, or else 0.
+#[repr(C)]
+pub struct Listed {
+    pub fits: bool,
+    pub count: usize,
+}
+
+// The listing of a walk file, whatever its bytes. Nothing is required of the buffer.
+#[no_mangle]
+pub extern "C" fn pogandir_list(file: &[u8], out: &mut [u8]) -> Listed
+    ensures { λ r. ⌜ listing.outcome (listingFrom r) (now (out .exit)) ≡ listing.listed (now (file .entry)) (now (out .entry)) ⌝ }
+{
+    match list(file, out) {
+        Listing::Written(count) => Listed { fits: true, count },
+        Listing::NoRoom => Listed {
+            fits: false,
+            count: 0,
+        },
+    }
 }

@@ -1,0 +1,37 @@
+-- `exported::pogandir_list` meets its contract: each arm by what `list` gave back. Assumes nothing.
+use mathlib.Core.Path.{sym, ap, _∙_}
+use borrow.Author.Needs.{needs}
+use Rattle.walkfile.specs.declared.Listing.{Listing}
+use Rattle.walkfile.specs.Listing.{outcome}
+use Rattle.exported.proofs.pogandir_list.Statement.{statement}
+use Rattle.exported.proofs.pogandir_list.Tie as tie
+
+list-requires : tie.Need-list-requires
+list-requires c κs = search needs
+
+enum-known-count : tie.Need-enum-known-count
+enum-known-count c = search needs
+
+enum-told : tie.Need-enum-told
+enum-told c = search needs
+
+same-length : tie.Need-same-length
+same-length c = search needs
+
+returns : tie.Need-returns
+returns c =
+    let l = c .before .before .before .before .before .list in
+    ap (λ (r : Listing). outcome r (l .last .1 .0)) (sym (c .before .count .given .1)) ∙ l .ensures
+
+same-length-2 : tie.Need-same-length-2
+same-length-2 c = search needs
+
+returns-2 : tie.Need-returns-2
+returns-2 c =
+    let l = c .before .before .before .before .list in
+    ap (λ (r : Listing). outcome r (l .last .1 .0)) (sym (c .enum-told .given .1)) ∙ l .ensures
+
+pub pogandir-list-spec : {M : Type 1} → statement M
+pogandir-list-spec =
+    tie.close
+    (tie.spec list-requires enum-known-count enum-told same-length returns same-length-2 returns-2)
