@@ -140,7 +140,7 @@ fn other_atom(walk: &mut Walk, kind: Kind, value: u32) -> (Kind, u32) {
         Kind::Time => u32::MAX,
     };
     if walk.random.one_in(2) {
-        return (kind, (value + 1) % limit);
+        return (kind, value.wrapping_add(1) % limit);
     }
     let n = u32::from(walk.principals());
     match kind {
