@@ -5,8 +5,12 @@ use std::path::PathBuf;
 
 fn main() {
     let here = PathBuf::from(env::var("CARGO_MANIFEST_DIR").unwrap());
-    let archive = here.join("../../target/staticlib");
-    println!("cargo:rustc-link-search=native={}", archive.display());
+    let directory = here.join("../../target/staticlib");
+    let archive = directory.join("libexported.a");
+    println!("cargo:rerun-if-changed={}", archive.display());
+    if !archive.exists() {
+        panic!("no target/staticlib/libexported.a: run `rt staticlib exported` at the top first");
+    }
+    println!("cargo:rustc-link-search=native={}", directory.display());
     println!("cargo:rustc-link-lib=static=exported");
-    println!("cargo:rerun-if-changed={}", archive.join("libexported.a").display());
 }

@@ -1,9 +1,14 @@
-//! The proved engine's public call, on tables of this program: `pogandir_call`
-//! of the crate `exported`, declared again and wrapped.
+//! The proved engine from Rust: what the crate `exported` exports, declared
+//! again and wrapped. `pogandir_call` is here, on tables of this program.
 //!
 //! Nothing checks the declarations against the engine's source: they follow
 //! `crates/exported/src/lib.rt`, `crates/realm/src/header.rt` and
-//! `crates/replay/src/entry.rt`. The call requires nothing of what it is lent.
+//! `crates/replay/src/entry.rt`. Neither function requires anything of what it
+//! is lent.
+
+mod listing;
+
+pub use listing::{list, listing, LISTING_BYTES};
 
 use reference::file::{Header, Record};
 
