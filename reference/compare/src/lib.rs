@@ -15,6 +15,17 @@ pub enum Engine {
 }
 
 impl Engine {
+    /// The proved engine in this process; none in a build without it.
+    #[cfg(feature = "engine")]
+    pub fn linked() -> Option<Engine> {
+        Some(Engine::Function(lent::listing))
+    }
+
+    #[cfg(not(feature = "engine"))]
+    pub fn linked() -> Option<Engine> {
+        None
+    }
+
     pub fn listing(&self, file: &[u8]) -> Result<Vec<u8>, String> {
         match self {
             Engine::Program(path) => {

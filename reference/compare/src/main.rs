@@ -6,8 +6,15 @@ use std::process::ExitCode;
 use compare::{Engine, Outcome};
 
 const USAGE: &str = "usage:
-  compare --program PATH --seed S --count N [--from I]   over generated files I to I + N - 1
-  compare --program PATH --files DIR                     over all .walk files of a directory";
+  compare [--program PATH] --seed S --count N [--from I] [--damaged]
+      over generated files I to I + N - 1; of the damaged and random ones alone
+  compare [--program PATH] --files DIR
+      over all .walk files of a directory
+Without a program the proved engine runs in this process, if `compare` was built with it.";
+
+const NO_ENGINE: &str = "this build has no engine: name a --program, or build with it:
+  rt staticlib exported                                            (at the repository's top)
+  cargo build --release --offline -p compare --features engine     (in reference/)";
 
 #[derive(Default)]
 struct Options {
@@ -15,23 +22,16 @@ struct Options {
     seed: u64,
     from: u64,
     count: Option<u64>,
+    damaged: bool,
     files: Option<PathBuf>,
 }
 
 fn main() -> ExitCode {
-    let options = options(std::env::args().skip(1));
-    let Some((engine, options)) =
-        options.and_then(|o| Some((Engine::Program(o.program.clone()?), o)))
-    else {
+    let Some(options) = options(std::env::args().skip(1)) else {
         eprintln!("{USAGE}");
         return ExitCode::from(2);
     };
-    let outcome = match (&options.files, options.count) {
-        (Some(directory), None) => stored(&engine, directory),
-        (None, Some(count)) => Ok(generated(&engine, &options, count)),
-        _ => Err("name either --count or --files".to_string()),
-    };
-    match outcome {
+    match run(&options) {
         Ok(outcome) => report(&outcome),
         Err(error) => {
             eprintln!("compare: {error}");
@@ -43,24 +43,38 @@ fn main() -> ExitCode {
 fn options(mut arguments: impl Iterator<Item = String>) -> Option<Options> {
     let mut options = Options::default();
     while let Some(argument) = arguments.next() {
-        let value = arguments.next()?;
         match argument.as_str() {
-            "--program" => options.program = Some(value.into()),
-            "--seed" => options.seed = value.parse().ok()?,
-            "--from" => options.from = value.parse().ok()?,
-            "--count" => options.count = Some(value.parse().ok()?),
-            "--files" => options.files = Some(value.into()),
+            "--program" => options.program = Some(arguments.next()?.into()),
+            "--seed" => options.seed = arguments.next()?.parse().ok()?,
+            "--from" => options.from = arguments.next()?.parse().ok()?,
+            "--count" => options.count = Some(arguments.next()?.parse().ok()?),
+            "--damaged" => options.damaged = true,
+            "--files" => options.files = Some(arguments.next()?.into()),
             _ => return None,
         }
     }
     Some(options)
 }
 
+fn run(options: &Options) -> Result<Outcome, String> {
+    let engine = match &options.program {
+        Some(path) => Engine::Program(path.clone()),
+        None => Engine::linked().ok_or(NO_ENGINE)?,
+    };
+    match (&options.files, options.count) {
+        (Some(directory), None) => stored(&engine, directory),
+        (None, Some(count)) => Ok(generated(&engine, options, count)),
+        _ => Err("name either --count or --files".to_string()),
+    }
+}
+
 fn generated(engine: &Engine, options: &Options, count: u64) -> Outcome {
+    let made = if options.damaged { generator::damaged_file } else { generator::walk_file };
+    let kind = if options.damaged { " --damaged" } else { "" };
     let mut outcome = Outcome::default();
     for number in options.from..options.from + count {
-        let name = format!("generated file: --seed {} --file {number}", options.seed);
-        outcome.compare(engine, &name, &generator::walk_file(options.seed, number));
+        let name = format!("generated file: --seed {} --file {number}{kind}", options.seed);
+        outcome.compare(engine, &name, &made(options.seed, number));
     }
     outcome
 }

@@ -79,20 +79,53 @@ fn a_program_that_does_not_read_is_judged_by_its_listing() {
     assert_eq!(engine.listing(&[7; 200_000]).unwrap(), b"");
 }
 
+/// The command's status, and what it printed on either stream.
+fn command(arguments: &[&str]) -> (Option<i32>, String) {
+    let output = Command::new(env!("CARGO_BIN_EXE_compare")).args(arguments).output().unwrap();
+    let printed = [output.stdout, output.stderr].concat();
+    (output.status.code(), String::from_utf8(printed).unwrap())
+}
+
 #[test]
 fn the_command_reports_by_its_status() {
-    let run = |arguments: &[&str]| {
-        let output = Command::new(env!("CARGO_BIN_EXE_compare")).args(arguments).output().unwrap();
-        (output.status.code(), String::from_utf8(output.stdout).unwrap())
-    };
     let (status, output) =
-        run(&["--program", "cat", "--seed", "1", "--count", "5", "--from", "10"]);
+        command(&["--program", "cat", "--seed", "1", "--count", "5", "--from", "10"]);
     assert_eq!(status, Some(1));
     assert!(output.starts_with(
         "5 files compared, 5 differ\nfirst: generated file: --seed 1 --file 10\nline 1\n"
     ));
-    assert_eq!(run(&["--program", "cat"]).0, Some(2));
-    assert_eq!(run(&["--seed", "1", "--count", "5"]).0, Some(2));
-    assert_eq!(run(&["--program"]).0, Some(2));
-    assert_eq!(run(&["--program", "cat", "--files", "no-such-directory"]).0, Some(2));
+    assert_eq!(command(&["--program", "cat"]).0, Some(2));
+    assert_eq!(command(&["--program"]).0, Some(2));
+    assert_eq!(command(&["--program", "cat", "--files", "no-such-directory"]).0, Some(2));
+}
+
+#[test]
+fn damaged_files_are_named_as_such() {
+    let (status, output) =
+        command(&["--program", "cat", "--seed", "1", "--damaged", "--count", "5"]);
+    assert_eq!(status, Some(1));
+    assert!(output.contains("first: generated file: --seed 1 --file 0 --damaged\n"), "{output}");
+}
+
+#[test]
+#[cfg(not(feature = "engine"))]
+fn a_build_without_the_engine_says_how_to_get_it() {
+    assert!(Engine::linked().is_none());
+    let (status, output) = command(&["--seed", "1", "--count", "5"]);
+    assert_eq!(status, Some(2));
+    assert!(output.contains("--features engine"), "{output}");
+}
+
+#[test]
+#[cfg(feature = "engine")]
+fn the_engine_runs_in_this_process() {
+    let outcome = over(Engine::linked().unwrap(), 300);
+    assert_eq!((outcome.files, outcome.different, outcome.first), (300, 0, None));
+    for kind in [&["--damaged"][..], &[]] {
+        let run = [&["--seed", "3", "--count", "500"], kind].concat();
+        assert_eq!(command(&run), (Some(0), "500 files compared, 0 differ\n".to_string()));
+    }
+    let examples = concat!(env!("CARGO_MANIFEST_DIR"), "/../../examples");
+    let (status, output) = command(&["--files", examples]);
+    assert_eq!(status, Some(0), "{output}");
 }

@@ -25,3 +25,8 @@ use random::Random;
 pub fn walk_file(seed: u64, number: u64) -> Vec<u8> {
     scenes::any_file(&mut Random::new(seed, number))
 }
+
+/// The same of the damaged and random files alone.
+pub fn damaged_file(seed: u64, number: u64) -> Vec<u8> {
+    scenes::any_damaged_file(&mut Random::new(seed, number))
+}

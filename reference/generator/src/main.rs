@@ -5,13 +5,14 @@ use std::path::PathBuf;
 use std::process::ExitCode;
 
 use generator::coverage::Tally;
-use generator::{vectors, walk_file};
+use generator::{damaged_file, vectors, walk_file};
 
 const USAGE: &str = "usage:
-  generate --seed S --count N --out DIR       write N walk files
-  generate --coverage --seed S --count N      print the coverage table
-  generate --vectors DIR --count N [--seed S] write N small walks with listings
-  generate --seed S --file I                  write walk file I to standard output";
+  generate --seed S --count N --out DIR [--damaged]  write N walk files
+  generate --seed S --file I [--damaged]             write walk file I to standard output
+  generate --coverage --seed S --count N             print the coverage table
+  generate --vectors DIR --count N [--seed S]        write N small walks with listings
+--damaged makes the damaged and random ones alone.";
 
 #[derive(Default)]
 struct Options {
@@ -21,6 +22,7 @@ struct Options {
     vectors: Option<PathBuf>,
     file: Option<u64>,
     coverage: bool,
+    damaged: bool,
 }
 
 fn main() -> ExitCode {
@@ -42,6 +44,7 @@ fn options(mut arguments: impl Iterator<Item = String>) -> Option<Options> {
     while let Some(argument) = arguments.next() {
         match argument.as_str() {
             "--coverage" => options.coverage = true,
+            "--damaged" => options.damaged = true,
             "--seed" => options.seed = arguments.next()?.parse().ok()?,
             "--count" => options.count = Some(arguments.next()?.parse().ok()?),
             "--file" => options.file = Some(arguments.next()?.parse().ok()?),
@@ -57,20 +60,23 @@ fn options(mut arguments: impl Iterator<Item = String>) -> Option<Options> {
         options.file.is_some(),
     ];
     let one_mode = modes.iter().filter(|is| **is).count() == 1;
-    (one_mode && (options.file.is_some() || options.count.is_some())).then_some(options)
+    let writes_files = options.out.is_some() || options.file.is_some();
+    let counted = options.file.is_some() || options.count.is_some();
+    (one_mode && counted && (writes_files || !options.damaged)).then_some(options)
 }
 
 fn run(options: &Options) -> Result<(), String> {
     let count = options.count.unwrap_or(0);
+    let made = if options.damaged { damaged_file } else { walk_file };
     if let Some(number) = options.file {
         use std::io::Write;
-        let written = std::io::stdout().write_all(&walk_file(options.seed, number));
+        let written = std::io::stdout().write_all(&made(options.seed, number));
         return written.map_err(|error| error.to_string());
     }
     if let Some(out) = &options.out {
         fs::create_dir_all(out).map_err(|error| format!("{}: {error}", out.display()))?;
         for number in 0..count {
-            write(out.join(format!("{number}.walk")), &walk_file(options.seed, number))?;
+            write(out.join(format!("{number}.walk")), &made(options.seed, number))?;
         }
         return Ok(());
     }

@@ -11,7 +11,18 @@ use crate::{actions, damage, extremes, limits};
 /// A file of any kind. Files on full tables and of full length are long, so
 /// they are made less often.
 pub fn any_file(random: &mut Random) -> Vec<u8> {
-    match random.below(200) {
+    let kind = random.below(200);
+    file_of(random, kind)
+}
+
+/// A damaged file, a bad header or random bytes, as often as among all files.
+pub fn any_damaged_file(random: &mut Random) -> Vec<u8> {
+    let kind = 164 + random.below(36);
+    file_of(random, kind)
+}
+
+fn file_of(random: &mut Random, kind: usize) -> Vec<u8> {
+    match kind {
         0..=64 => mixed(random).bytes,
         65..=84 => exchanges(random).bytes,
         85..=104 => ticks(random).bytes,

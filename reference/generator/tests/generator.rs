@@ -6,7 +6,7 @@ use std::collections::HashSet;
 use generator::cells::{main_cells, refusals_of_kind, refusals_of_step};
 use generator::coverage::{cells_met, Tally};
 use generator::edges::edge_cells;
-use generator::{vectors, walk_file};
+use generator::{damaged_file, vectors, walk_file};
 
 const SEED: u64 = 1;
 
@@ -19,6 +19,31 @@ fn a_file_depends_on_seed_and_number_alone() {
     assert_ne!(first, other);
     let distinct: HashSet<&Vec<u8>> = first.iter().chain(&other).collect();
     assert!(distinct.len() > 380);
+}
+
+/// Most damaged files are refused somewhere for their bytes, in each way that
+/// there is; some damages only change a field.
+#[test]
+fn damaged_files_are_damaged() {
+    let mut tally = Tally::default();
+    let files: Vec<Vec<u8>> = (0..1_000).map(|number| damaged_file(SEED, number)).collect();
+    assert_eq!(damaged_file(SEED, 17), files[17]);
+    for file in &files {
+        tally.add(file);
+    }
+    let refused: Vec<u64> = (1..=3).map(|n| tally.count(&format!("file / refused {n}"))).collect();
+    assert!(refused.iter().all(|count| *count >= 50), "{refused:?}");
+    assert!(refused.iter().sum::<u64>() >= 400, "{refused:?}");
+}
+
+/// Sums in the generator do not pass their types' ends, whatever the seed.
+#[test]
+fn other_seeds_make_files() {
+    for seed in 2..12 {
+        for number in 0..300 {
+            walk_file(seed, number);
+        }
+    }
 }
 
 #[test]
