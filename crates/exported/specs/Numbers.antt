@@ -1,33 +1,55 @@
--- What the numbers of an exported call, and of a listing, mean.
+-- A call, its answer and a listing as the numbers that cross to other languages.
 -- Assumes nothing.
 use Prim.Native.Nat.{ℕ}
-use mathlib.Core.Path.{_≡_, sym, ap}
+use mathlib.Core.Path.{_≡_}
 use mathlib.Core.Bool.{true, false}
-use lib.Dec.{eqb}
+use mathlib.Core.List.{List}
 use Rattle.terms.specs.Choice.{pick}
 use Rattle.exchange.specs.declared.call.Answer.{Answer}
 use Rattle.exchange.specs.declared.call.Answer.the-variants.{Number, OkRun, Ok, Refused}
 use Rattle.exchange.specs.declared.call.Call.{Call}
 use Rattle.exchange.specs.declared.call.Call.the-variants.{Term, Step}
+use Rattle.realm.specs.Tables.{Tables}
+use Rattle.effects.specs.Apply.{Outcome}
 use Rattle.calls.specs.declared.Called.{Called}
-use Rattle.walkfile.specs.declared.Listing.{Listing}
-use Rattle.walkfile.specs.declared.Listing.the-variants.{Written, NoRoom}
+use Rattle.walkfile.specs.Listing as listing
 use Rattle.exported.specs.declared.Listed.{Listed}
 use Rattle.exported.specs.declared.Record.{Record}
 use Rattle.exported.specs.declared.Reply.{Reply}
 
+-- ---- a call
+
 unfoldable pub callOf : Record → Call
 callOf q = pick (q .adds) (Term (q .kind) (q .l) (q .r)) (Step (q .step) (q .run) (q .a) (q .b) (q .m) (q .t))
 
--- an answer, from its kind and its number
-abbrev pub answerOf : (kind number : ℕ) → Answer
-answerOf kind number = pick (eqb kind 0) (Number number) (pick (eqb kind 1) (OkRun number) (pick (eqb kind 2) Ok (Refused number)))
+-- ---- its answer
 
-abbrev pub calledOf : Reply → Called
-calledOf r = record { realm = r .realm; answer = answerOf (r .kind) (r .number) }
+abbrev pub kindOf : Answer → ℕ
+kindOf (Number i) = 0
+kindOf (OkRun r) = 1
+kindOf Ok = 2
+kindOf (Refused k) = 3
 
-abbrev pub listingFrom : Listed → Listing
-listingFrom r = pick (r .fits) (Written (r .count)) NoRoom
+-- its number, or else 0
+abbrev pub numberOf : Answer → ℕ
+numberOf (Number i) = i
+numberOf (OkRun r) = r
+numberOf Ok = 0
+numberOf (Refused k) = k
+
+abbrev pub replyOf : Called → Reply
+replyOf x = record { realm = x .realm; kind = kindOf (x .answer); number = numberOf (x .answer) }
+
+-- what a call comes to: the reply, and the tables
+abbrev pub replied : Outcome → Reply × Tables
+replied o = (replyOf (record { realm = o .tables .realm; answer = o .answer }), o .tables)
+
+-- ---- a listing
+
+-- whether it was written, its bytes' number or else 0, and the buffer
+abbrev pub shown : listing.Outcome → Listed × List ℕ
+shown (listing.written count buffer) = (record { fits = true; count = count }, buffer)
+shown (listing.no-room buffer) = (record { fits = false; count = 0 }, buffer)
 
 -- ---- laws
 
@@ -38,7 +60,3 @@ term-call q e = rw e
 pub step-call : (q : Record) → q .adds ≡ false → Step (q .step) (q .run) (q .a) (q .b) (q .m) (q .t) ≡ callOf q
 unfolding callOf
 step-call q e = rw e
-
--- numbers that mean an answer mean what holds it
-pub means : (x : Called) (kind number : ℕ) → x .answer ≡ answerOf kind number → calledOf (record { realm = x .realm; kind = kind; number = number }) ≡ x
-means x kind number e = ap (λ (answer : Answer). record { realm = x .realm; answer = answer }) (sym e)

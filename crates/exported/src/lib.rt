@@ -10,9 +10,9 @@ use walkfile::Listing;
 use walkfile::list;
 ghost use mathlib.Core.Path.{_≡_};
 ghost use Rattle.realm.specs.Tables.{tables};
-ghost use Rattle.calls.specs.Lent.{outcome, lentCall};
-ghost use Rattle.walkfile.specs.Listing as listing;
-ghost use Rattle.exported.specs.Numbers.{callOf, calledOf, listingFrom};
+ghost use Rattle.calls.specs.Lent.{lentCall};
+ghost use Rattle.walkfile.specs.Listing.{listed};
+ghost use Rattle.exported.specs.Numbers.{callOf, replyOf, replied, shown};
 
 // A call: a term where `adds`, with the next three fields, or else a step, with the others.
 // Fields that are not used may hold anything.
@@ -68,7 +68,7 @@ fn call_of(q: Record) -> Call
 }
 
 fn reply_of(x: Called) -> Reply
-    ensures { λ r. ⌜ calledOf r ≡ x ⌝ }
+    ensures { λ r. ⌜ r ≡ replyOf x ⌝ }
 {
     let realm = x.realm;
     let answer = x.answer;
@@ -106,7 +106,7 @@ pub extern "C" fn pogandir_call(
     list: &mut [Entry],
     q: Record,
 ) -> Reply
-    ensures { λ r. ⌜ outcome (calledOf r) (now (terms .exit)) (now (runs .exit)) (now (wire .exit)) (now (list .exit)) ≡ lentCall (tables h (now (terms .entry)) (now (runs .entry)) (now (wire .entry)) (now (list .entry))) (callOf q) ⌝ }
+    ensures { λ r. ⌜ (r, tables (r .realm) (now (terms .exit)) (now (runs .exit)) (now (wire .exit)) (now (list .exit))) ≡ replied (lentCall (tables h (now (terms .entry)) (now (runs .entry)) (now (wire .entry)) (now (list .entry))) (callOf q)) ⌝ }
 {
     reply_of(call(h, terms, runs, wire, list, call_of(q)))
 }
@@ -121,7 +121,7 @@ pub struct Listed {
 // The listing of a walk file, whatever its bytes. Nothing is required of the buffer.
 #[no_mangle]
 pub extern "C" fn pogandir_list(file: &[u8], out: &mut [u8]) -> Listed
-    ensures { λ r. ⌜ listing.outcome (listingFrom r) (now (out .exit)) ≡ listing.listed (now (file .entry)) (now (out .entry)) ⌝ }
+    ensures { λ r. ⌜ (r, now (out .exit)) ≡ shown (listed (now (file .entry)) (now (out .entry))) ⌝ }
 {
     match list(file, out) {
         Listing::Written(count) => Listed { fits: true, count },

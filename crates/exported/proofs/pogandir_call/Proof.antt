@@ -46,7 +46,7 @@ use Rattle.calls.specs.declared.Called.{Called}
 use Rattle.calls.specs.Lent.{outcome, lentCall}
 use Rattle.exported.specs.declared.Record.{Record}
 use Rattle.exported.specs.declared.Reply.{Reply}
-use Rattle.exported.specs.Numbers.{callOf, calledOf}
+use Rattle.exported.specs.Numbers.{callOf, replyOf, replied}
 use Rattle.realm.proofs.header.Realm as 𝓗
 use Rattle.exchange.proofs.call.Call as 𝓒
 use Rattle.exchange.proofs.call.Call.Laws as 𝓒′
@@ -124,7 +124,7 @@ module _ {M : Type 1} (𝓤 : URA M) (H : Heap 𝓤) (A : Atoms 𝓤) (W : Given
   Toks = ‵ (flft κ₀ q₀) ⊛ (‵ (flft κ₁ q₁) ⊛ (‵ (flft κ₂ q₂) ⊛ (‵ (flft κ₃ q₃) ⊛ ‵ ftrue)))
 
   exits : (r : Reply) (w : Val) → Is 𝓟.the-row r (w ∷ []) → (zs₀ zs₁ zs₂ : List ℕ) (zs₃ : List Entry) → length zs₀ ≡ length (terms .now) → length zs₁ ≡ length (runs .now) → length zs₂ ≡ length (wire .now) → length zs₃ ≡ length (list .now)
-      → outcome (calledOf r) zs₀ zs₁ zs₂ zs₃ ≡ lentCall t (callOf q)
+      → (r, realmTables (r .realm) zs₀ zs₁ zs₂ zs₃) ≡ replied (lentCall t (callOf q))
       → ent 𝓤 (⋆ 𝓤 H A (Toks ∷ ‵ (finally R (list .name) zs₃) ∷ ‵ (finally u64 (wire .name) zs₂) ∷ ‵ (finally u32 (runs .name) zs₁) ∷ ‵ (finally u64 (terms .name) zs₀) ∷ [])) (Post w)
   exits r w is zs₀ zs₁ zs₂ zs₃ l₀ l₁ l₂ l₃ e =
       qed W (Toks ∷ ‵ (finally R (list .name) zs₃) ∷ ‵ (finally u64 (wire .name) zs₂) ∷ ‵ (finally u32 (runs .name) zs₁) ∷ ‵ (finally u64 (terms .name) zs₀) ∷ []) ∵
@@ -210,14 +210,14 @@ module _ {M : Type 1} (𝓤 : URA M) (H : Heap 𝓤) (A : Atoms 𝓤) (W : Given
         use0 W (raw (Tell 𝓤 H A mem run .pre (to-tell x))) (goes-tell x (subst (Is 𝓓.the-row x) (called-tells x _ isx) isx)) $
         calls-at ! fm (Tell 𝓤 H A mem run) known-tell (to-tell x) (and-then ! (load ! (from ! (stop !)) (look ! 25 refl)) (no-more !)) (λ w₃.
         use1 W (later (some (λ (r : Reply). (‵ ftrue ⊛ ‵ (𝓟.the-row .own r (w₃ ∷ []))) ⊛ raw (ensured 𝓤 H A tell.ended (tell.clauses 𝓤 H A mem run) tt (x, tt) tt r)))) (id⊢ 𝓤 _) $ await ! tt $ pick ! (λ r.
-        split ! $ move ! (1 ∷ []) $ use1 W (raw (fact 𝓤 (calledOf r ≡ x))) (exE 𝓤 _ (λ ws. snd∗ 𝓤 (sem 𝓤 H A (lasts tell.ended tt (x, tt) ws)) (fact 𝓤 (calledOf r ≡ x)))) $ heard ! (calledOf r ≡ x) (λ r-is. split ! $ drop ! $
+        split ! $ move ! (1 ∷ []) $ use1 W (raw (fact 𝓤 (r ≡ replyOf x))) (exE 𝓤 _ (λ ws. snd∗ 𝓤 (sem 𝓤 H A (lasts tell.ended tt (x, tt) ws)) (fact 𝓤 (r ≡ replyOf x)))) $ heard ! (r ≡ replyOf x) (λ r-is. split ! $ drop ! $
         peeks ! 𝓟.the-row (Is 𝓟.the-row) (shows 𝓤 H A 𝓟.the-row) r (w₃ ∷ []) (λ isr.
         land ! (from ! (stop !)) (init ! 39 refl (reply-typed 𝓤 H A W r _ isr .0)) $ drop ! $
         returns ! (look ! 38 refl) $ forget ! 6 refl $ forget ! 8 refl $ forget ! 10 refl $ forget ! 12 refl $ forget ! 14 refl $ forget ! 16 refl $ forget ! 18 refl $ forget ! 20 refl $ forget ! 22 refl $ forget ! 24 refl $ forget ! 26 refl $ forget ! 28 refl $ forget ! 30 refl $ forget ! 32 refl $ forget ! 34 refl $ forget ! 36 refl $ forget ! 38 refl $
         move ! (38 ∷ 39 ∷ []) $ free1 ! $ move ! (36 ∷ 37 ∷ []) $ free1 ! $ move ! (34 ∷ 35 ∷ []) $ free1 ! $ move ! (32 ∷ 33 ∷ []) $ free1 ! $ move ! (30 ∷ 31 ∷ []) $ free1 ! $ move ! (28 ∷ 29 ∷ []) $ free1 ! $ move ! (26 ∷ 27 ∷ []) $ free1 ! $ move ! (24 ∷ 25 ∷ []) $ free1 ! $ move ! (22 ∷ 23 ∷ []) $ free1 ! $ move ! (20 ∷ 21 ∷ []) $ free1 ! $ move ! (18 ∷ 19 ∷ []) $ free1 ! $ move ! (16 ∷ 17 ∷ []) $ free1 ! $ move ! (14 ∷ 15 ∷ []) $ free1 ! $ move ! (12 ∷ 13 ∷ []) $ free1 ! $ move ! (10 ∷ 11 ∷ []) $ free1 ! $ move ! (8 ∷ 9 ∷ []) $ free1 ! $ move ! (6 ∷ 7 ∷ []) $ free1 ! $ free0 ! $
         keep ! (0 ∷ 1 ∷ 2 ∷ 3 ∷ 4 ∷ []) $
         by ! (exits r w₃ isr (zs .1 .0) (zs .1 .1 .0) (zs .1 .1 .1 .0) (zs .1 .1 .1 .1 .0) l₀′ l₁′ l₂′ l₃′
-        (ap (λ (y : Called). outcome y (zs .1 .0) (zs .1 .1 .0) (zs .1 .1 .1 .0) (zs .1 .1 .1 .1 .0)) r-is ∙ x-is ∙ ap (lentCall t) c-is))))))))))))))))))))))))))))))))))))
+        (ap (λ (y : Reply). (y, realmTables (y .realm) (zs .1 .0) (zs .1 .1 .0) (zs .1 .1 .1 .0) (zs .1 .1 .1 .1 .0))) r-is ∙ ap replied (x-is ∙ ap (lentCall t) c-is)))))))))))))))))))))))))))))))))))))
 
 -- ---- the theorem
 module _ {M : Type 1} (𝓤 : URA M) (H : Heap 𝓤) (A : Atoms 𝓤) (W : Given 𝓤 H A) (mem : Memory → SProp 𝓤) (run : Routine → Fun 𝓤) where

@@ -1,5 +1,8 @@
 -- `exported::reply_of` meets its contract: each arm by the answer that it is. Assumes nothing.
-use Rattle.exported.specs.Numbers.{means}
+use mathlib.Core.Path.{_≡_, sym, ap}
+use Rattle.exchange.specs.declared.call.Answer.{Answer}
+use Rattle.realm.specs.declared.header.Realm.{Realm}
+use Rattle.exported.specs.Numbers.{replyOf}
 use borrow.Author.Needs.{needs}
 use Rattle.exported.proofs.reply_of.Statement.{statement}
 use Rattle.exported.proofs.reply_of.Tie as tie
@@ -22,17 +25,20 @@ enum-known-answer-3 c = search needs
 cast-t9 : tie.Need-cast-t9
 cast-t9 c = search needs
 
+told : (h : Realm) {x y : Answer} → x ≡ y → replyOf (record { realm = h; answer = x }) ≡ replyOf (record { realm = h; answer = y })
+told h e = ap (λ (a : Answer). replyOf (record { realm = h; answer = a })) e
+
 returns : tie.Need-returns
-returns c = means (c .before .before .before .before .args .x) 0 (c .before .answer .given .0 .0) (c .before .answer .given .1)
+returns c = told (c .before .before .before .before .args .x .realm) (sym (c .before .answer .given .1))
 
 returns-2 : tie.Need-returns-2
-returns-2 c = means (c .before .before .before .before .args .x) 1 (c .before .answer2 .given .0 .0) (c .before .answer2 .given .1)
+returns-2 c = told (c .before .before .before .before .args .x .realm) (sym (c .before .answer2 .given .1))
 
 returns-3 : tie.Need-returns-3
-returns-3 c = means (c .before .before .before .args .x) 2 0 (c .enum-told .given .1)
+returns-3 c = told (c .before .before .before .args .x .realm) (sym (c .enum-told .given .1))
 
 returns-4 : tie.Need-returns-4
-returns-4 c = means (c .before .before .before .before .args .x) 3 (c .before .answer3 .given .0 .0) (c .before .answer3 .given .1)
+returns-4 c = told (c .before .before .before .before .args .x .realm) (sym (c .before .answer3 .given .1))
 
 pub reply-of-spec : {M : Type 1} → statement M
 reply-of-spec =
