@@ -1,0 +1,89 @@
+//! Instructions of one pass, counted by valgrind's callgrind where it is there.
+//! This program is started again under it, on files that were made before, and
+//! only the pass itself is counted.
+
+use std::fs;
+use std::io;
+use std::path::Path;
+use std::process::{self, Command, Stdio};
+
+use crate::sides::{buffer, Side};
+
+pub fn is_there() -> bool {
+    let run = Command::new("valgrind").arg("--version").stdout(Stdio::null()).status();
+    run.is_ok_and(|status| status.success())
+}
+
+/// The instructions of a pass of this side. The directory is for files that are
+/// removed again.
+pub fn instructions(side: Side, files: &[Vec<u8>], directory: &Path) -> io::Result<u64> {
+    let input = directory.join(format!("pogandir-bench-{}.files", process::id()));
+    let output = input.with_extension("callgrind");
+    fs::write(&input, packed(files))?;
+    let status = Command::new("valgrind")
+        .arg("--tool=callgrind")
+        .arg(format!("--toggle-collect={}", side.symbol()))
+        .arg(format!("--callgrind-out-file={}", output.display()))
+        .arg(std::env::current_exe()?)
+        .args(["pass", side.name()])
+        .arg(&input)
+        .stderr(Stdio::null())
+        .status()?;
+    if !status.success() {
+        return Err(io::Error::other("valgrind failed"));
+    }
+    let counted = fs::read_to_string(&output)?;
+    fs::remove_file(&input)?;
+    fs::remove_file(&output)?;
+    total(&counted).ok_or(io::Error::other("callgrind wrote no total"))
+}
+
+/// What the child does: one pass over the files.
+pub fn pass(side: Side, input: &Path) -> io::Result<()> {
+    let files = unpacked(&fs::read(input)?);
+    side.pass(&files, &mut buffer());
+    Ok(())
+}
+
+/// Each file's length in four bytes, then its bytes.
+fn packed(files: &[Vec<u8>]) -> Vec<u8> {
+    let mut bytes = Vec::new();
+    for file in files {
+        bytes.extend((file.len() as u32).to_be_bytes());
+        bytes.extend(file);
+    }
+    bytes
+}
+
+fn unpacked(mut bytes: &[u8]) -> Vec<Vec<u8>> {
+    let mut files = Vec::new();
+    while let Some((length, rest)) = bytes.split_first_chunk::<4>() {
+        let (file, rest) = rest.split_at(u32::from_be_bytes(*length) as usize);
+        files.push(file.to_vec());
+        bytes = rest;
+    }
+    files
+}
+
+/// The number in callgrind's line `totals: N`.
+fn total(counted: &str) -> Option<u64> {
+    let line = counted.lines().find_map(|line| line.strip_prefix("totals: "))?;
+    line.trim().parse().ok()
+}
+
+#[cfg(test)]
+mod tests {
+    use super::*;
+
+    #[test]
+    fn packed_files_are_unpacked() {
+        let files = vec![b"HD".to_vec(), vec![], vec![7; 70_000]];
+        assert_eq!(unpacked(&packed(&files)), files);
+    }
+
+    #[test]
+    fn the_total_is_read() {
+        assert_eq!(total("events: Ir\nsummary: 5\n\ntotals: 1234\n"), Some(1234));
+        assert_eq!(total("events: Ir\n"), None);
+    }
+}

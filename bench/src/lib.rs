@@ -1,0 +1,12 @@
+//! Timings of the proved engine beside the reference, over walk files made for
+//! the purpose: both list the same bytes in the same process.
+
+pub mod callgrind;
+pub mod calls;
+pub mod deliveries;
+pub mod exchange;
+pub mod rows;
+pub mod sides;
+pub mod table;
+pub mod timing;
+pub mod walks;

@@ -1,0 +1,203 @@
+//! Prints the tables of docs/PERFORMANCE.md.
+//!
+//! `--times` leaves the instructions out. `pass SIDE FILE` is what callgrind runs.
+
+use std::hint::black_box;
+use std::path::Path;
+use std::process::exit;
+use std::{env, io};
+
+use bench::calls::{calls, delivery, Both, Call};
+use bench::rows::{Row, ROWS};
+use bench::sides::{buffer, compare, Side};
+use bench::table::{figure, head, line, microseconds, milliseconds};
+use bench::timing::least_of;
+use bench::{callgrind, walks};
+
+fn main() -> io::Result<()> {
+    let words: Vec<String> = env::args().skip(1).collect();
+    let words: Vec<&str> = words.iter().map(String::as_str).collect();
+    match words[..] {
+        ["pass", side, input] => {
+            let side = Side::named(side).ok_or(io::Error::other("engine or reference"))?;
+            callgrind::pass(side, Path::new(input))
+        }
+        [] => tables(callgrind::is_there()),
+        ["--times"] => tables(false),
+        _ => {
+            eprintln!("use: bench [--times]");
+            exit(2)
+        }
+    }
+}
+
+fn tables(count: bool) -> io::Result<()> {
+    println!("Both sides list the same files:\n");
+    compared(count)?;
+    println!("\nThe engine with more records, or more files:\n");
+    growth(count)?;
+    println!("\nOne public call, 512 terms, 64 runs, 16 entries, microseconds:\n");
+    public_calls();
+    println!("\nThe engine's public call with more terms, microseconds:\n");
+    growth_of_calls();
+    println!("\nBuffers, microseconds a file:\n");
+    buffers();
+    Ok(())
+}
+
+fn compared(count: bool) -> io::Result<()> {
+    let mut names = vec!["Row", "Lines", "Engine, ms", "Reference, ms", "Ratio"];
+    if count {
+        names.extend(["Engine, million instructions", "Reference", "Ratio"]);
+    }
+    head(&names);
+    for row in &ROWS {
+        let files = (row.files)(8);
+        let lines = compare(&files).unwrap_or_else(|number| {
+            eprintln!("{}: the listings of file {number} differ", row.name);
+            exit(1)
+        });
+        let mut buffer = buffer();
+        let times = least_of([&mut || Side::Engine.pass(&files, &mut buffer), &mut || {
+            Side::Reference.pass(&files, &mut [])
+        }]);
+        let mut cells = vec![row.name.to_string(), lines.to_string()];
+        cells.extend(beside(times.map(milliseconds)));
+        if count {
+            let engine = instructions(Side::Engine, &files)?;
+            cells.extend(beside([engine, instructions(Side::Reference, &files)?]));
+        }
+        line(&cells);
+    }
+    Ok(())
+}
+
+/// Two figures and their ratio.
+fn beside([engine, reference]: [f64; 2]) -> [String; 3] {
+    [figure(engine), figure(reference), figure(engine / reference)]
+}
+
+fn growth(count: bool) -> io::Result<()> {
+    let mut names = vec!["Row", "1x, ms", "2x", "4x", "8x", "8x to 1x"];
+    if count {
+        names.extend(["1x, million instructions", "2x", "4x", "8x", "8x to 1x"]);
+    }
+    head(&names);
+    for row in &ROWS {
+        let mut cells = vec![row.name.to_string()];
+        cells.extend(grown(row_times(row)));
+        if count {
+            let sizes = [1, 2, 4, 8].map(row.files);
+            let mut counts = [0.0; 4];
+            for (files, count) in sizes.iter().zip(&mut counts) {
+                *count = instructions(Side::Engine, files)?;
+            }
+            cells.extend(grown(counts));
+        }
+        line(&cells);
+    }
+    Ok(())
+}
+
+fn row_times(row: &Row) -> [f64; 4] {
+    let [one, two, four, eight] = [1, 2, 4, 8].map(row.files);
+    let [mut b1, mut b2, mut b4, mut b8] = [1, 2, 4, 8].map(|_| buffer());
+    let times = least_of([
+        &mut || Side::Engine.pass(&one, &mut b1),
+        &mut || Side::Engine.pass(&two, &mut b2),
+        &mut || Side::Engine.pass(&four, &mut b4),
+        &mut || Side::Engine.pass(&eight, &mut b8),
+    ]);
+    times.map(milliseconds)
+}
+
+/// Four figures, and the last to the first.
+fn grown(figures: [f64; 4]) -> Vec<String> {
+    let mut cells: Vec<String> = figures.iter().copied().map(figure).collect();
+    cells.push(figure(figures[3] / figures[0]));
+    cells
+}
+
+const CALLS: u32 = 100;
+
+/// Microseconds of the call by the engine and by the reference.
+fn call_times(call: &mut Call) -> [f64; 2] {
+    let Both { tables, realm } = &mut call.both;
+    let record = &call.record;
+    let times = least_of([
+        &mut || {
+            for _ in 0..CALLS {
+                black_box(tables.call(black_box(record)));
+            }
+        },
+        &mut || {
+            for _ in 0..CALLS {
+                let _ = black_box(realm.apply(black_box(record)));
+            }
+        },
+    ]);
+    times.map(|time| microseconds(time / CALLS))
+}
+
+/// The first call is the check of the tables alone, which the reference has not
+/// got, so the others are compared without it; the second makes one sweep.
+fn public_calls() {
+    head(&["Call", "Sweeps", "Engine", "Over step 7", "In sweeps", "Reference", "Ratio"]);
+    let mut all = calls(512);
+    all.push(delivery());
+    let times: Vec<[f64; 2]> = all.iter_mut().map(call_times).collect();
+    let (check, sweep) = (times[0][0], times[1][0] - times[0][0]);
+    for (call, [engine, reference]) in all.iter().zip(times) {
+        let mut cells = vec![call.name.to_string(), call.sweeps.to_string(), figure(engine)];
+        let over = engine - check;
+        if call.sweeps > 0 {
+            cells.extend([over, over / sweep, reference, over / reference].map(figure));
+        } else {
+            cells.extend(["", "", &figure(reference), ""].map(String::from));
+        }
+        line(&cells);
+    }
+}
+
+/// Step 7, and what the others take over it.
+fn growth_of_calls() {
+    head(&["Call", "64 terms", "128", "256", "512", "512 to 64"]);
+    let sizes = [64, 128, 256, 512].map(calls);
+    let names: Vec<&str> = sizes[0].iter().map(|call| call.name).collect();
+    let times = sizes.map(|mut all| all.iter_mut().map(|call| call_times(call)[0]).collect());
+    let [one, two, four, eight]: [Vec<f64>; 4] = times;
+    for (number, name) in names.iter().enumerate() {
+        let over = |times: &Vec<f64>| times[number] - if number > 0 { times[0] } else { 0.0 };
+        let mut cells =
+            vec![if number > 0 { format!("{name}, over step 7") } else { name.to_string() }];
+        cells.extend(grown([&one, &two, &four, &eight].map(over)));
+        line(&cells);
+    }
+}
+
+/// What a file costs before its first record, and what clearing would add.
+fn buffers() {
+    head(&["File", "Engine", "Engine, its buffer cleared before", "Reference"]);
+    for (name, file) in [("empty", vec![]), ("a header alone", walks::header_alone())] {
+        let files = vec![file; CALLS as usize];
+        let (mut kept, mut cleared) = (buffer(), buffer());
+        let times = least_of([
+            &mut || Side::Engine.pass(&files, &mut kept),
+            &mut || {
+                for file in &files {
+                    cleared.fill(0);
+                    Side::Engine.pass(std::slice::from_ref(file), black_box(&mut cleared));
+                }
+            },
+            &mut || Side::Reference.pass(&files, &mut []),
+        ]);
+        let mut cells = vec![name.to_string()];
+        cells.extend(times.map(|time| figure(microseconds(time / CALLS))));
+        line(&cells);
+    }
+}
+
+/// Instructions of a pass, in millions.
+fn instructions(side: Side, files: &[Vec<u8>]) -> io::Result<f64> {
+    Ok(callgrind::instructions(side, files, &env::temp_dir())? as f64 / 1e6)
+}

@@ -1,0 +1,55 @@
+//! The tables of the public calls, and what the calls do to them.
+
+use bench::calls::{calls, chain, delivery, sweeps, Order, LINKS};
+use lent::Answer;
+
+#[test]
+fn calls_leave_full_tables_as_they_are() {
+    for terms in [64, 128, 256, 512] {
+        for mut call in calls(terms) {
+            let realm = call.both.tables.realm;
+            assert_eq!((realm.terms, realm.runs, realm.entries), (terms, 64, 16));
+            let before = call.both.tables.clone();
+            let answer = call.both.put(call.record);
+            assert!(!matches!(answer, Answer::Refused(_)), "{}: {answer:?}", call.name);
+            assert_eq!(call.both.tables, before, "{}", call.name);
+        }
+    }
+}
+
+#[test]
+fn sweeps_are_counted() {
+    let of = |terms| calls(terms).iter().map(|call| call.sweeps).collect::<Vec<_>>();
+    assert_eq!(of(512), [0, 1, 2, LINKS + 2]);
+    assert_eq!(of(64), [0, 1, 2, 32]);
+}
+
+/// Without its first link nothing of a chain is opened.
+#[test]
+fn a_chain_hangs_on_its_first_link() {
+    for order in [Order::Best, Order::Worst] {
+        let (mut both, nonce) = chain(512, order);
+        let first = match order {
+            Order::Best => 2 * LINKS + 2,
+            Order::Worst => LINKS + 2,
+        };
+        let message = both.realm.terms.at(first as u16).unwrap().clone();
+        let (_, key) = message.encrypted().unwrap();
+        assert_eq!(key.session_key(), Some(64));
+        assert!(both.realm.wire.remove(&message));
+        both.tables.wire[first / 64] ^= 1 << (first % 64);
+        assert_eq!(sweeps(&both.realm), 1);
+        assert_eq!(both.put(bench::calls::query(nonce)), Answer::Refused(15));
+    }
+}
+
+#[test]
+fn the_delivery_is_refused_on_full_tables() {
+    let mut call = delivery();
+    let realm = call.both.tables.realm;
+    assert_eq!((realm.terms, realm.runs, realm.entries), (512, 64, 16));
+    assert_eq!(call.sweeps, 3);
+    let before = call.both.tables.clone();
+    assert_eq!(call.both.put(call.record), Answer::Refused(18));
+    assert_eq!(call.both.tables, before);
+}

@@ -1,0 +1,206 @@
+//! Each row's files are what its name says, by the listing of the reference and
+//! the tables that it has after them.
+
+use std::collections::BTreeSet;
+
+use bench::calls::sweeps;
+use bench::deliveries;
+use bench::rows::ROWS;
+use bench::sides::compare;
+use bench::walks;
+use reference::file::{read_header, read_record, MAX_FILE_BYTES};
+use reference::listing;
+use reference::realm::Realm;
+use reference::terms::Message;
+
+fn lines(file: &[u8]) -> Vec<String> {
+    listing(file).lines().map(String::from).collect()
+}
+
+/// The answers of the records after the header, without their numbers; without
+/// the last line.
+fn answers(file: &[u8]) -> Vec<String> {
+    let lines = lines(file);
+    let answers = lines[1..lines.len() - 1].iter();
+    answers.map(|line| line.split_once(' ').unwrap().1.to_string()).collect()
+}
+
+fn count(answers: &[String], answer: &str) -> usize {
+    answers.iter().filter(|found| *found == answer).count()
+}
+
+/// The realm after a file.
+fn realm(file: &[u8]) -> Realm {
+    let (header, mut rest) = read_header(file).unwrap();
+    let mut realm = Realm::new(header);
+    while let Some(read) = read_record(rest) {
+        let (record, after) = read.unwrap();
+        let _ = realm.apply(&record);
+        rest = after;
+    }
+    realm
+}
+
+const LONG: [fn(usize) -> Vec<u8>; 5] =
+    [walks::honest, walks::terms_only, walks::first_term, walks::deliveries, walks::deep];
+
+#[test]
+fn both_sides_list_every_row_alike() {
+    for row in &ROWS {
+        assert!(compare(&(row.files)(1)).is_ok(), "{}", row.name);
+    }
+}
+
+#[test]
+fn files_are_the_same_each_time() {
+    for row in &ROWS {
+        assert!((row.files)(1) == (row.files)(1), "{}", row.name);
+    }
+}
+
+#[test]
+fn long_files_grow_by_their_records() {
+    for make in LONG {
+        let filling = lines(&make(0)).len();
+        let repeated = lines(&make(1)).len() - filling;
+        assert!(repeated > 500);
+        for eighths in [2, 4, 8] {
+            assert_eq!(lines(&make(eighths)).len(), filling + eighths * repeated);
+        }
+        let whole = make(8).len();
+        assert!(MAX_FILE_BYTES - 100 < whole && whole <= MAX_FILE_BYTES, "{whole}");
+    }
+}
+
+#[test]
+fn records_that_repeat_leave_the_tables() {
+    for make in LONG {
+        assert_eq!(lines(&make(0)).last(), lines(&make(8)).last());
+        assert_eq!(realm(&make(0)).terms.count(), realm(&make(8)).terms.count());
+    }
+}
+
+#[test]
+fn the_honest_walk_has_exchanges_of_good_principals() {
+    let filling = answers(&walks::honest(0));
+    assert!(filling.iter().all(|answer| !answer.contains("refused")));
+    let realm = realm(&walks::honest(0));
+    assert_eq!(realm.header.flags, 0);
+    assert_eq!(realm.runs.len(), 64);
+    let held = realm.runs.iter().filter(|run| run.held.is_some()).count();
+    assert_eq!(held, 63, "all but the second responder");
+    let repeated = answers(&walks::honest(8)).split_off(filling.len());
+    let kinds: BTreeSet<&str> = repeated.iter().map(String::as_str).collect();
+    assert_eq!(kinds.len(), 4, "{kinds:?}");
+    let sixth = repeated.len() / 6;
+    assert_eq!(count(&repeated, "ST refused 18") / sixth, 1);
+    assert_eq!(count(&repeated, "ST refused 11") / sixth, 2);
+    assert_eq!(count(&repeated, "ST ok -") / sixth, 2);
+}
+
+#[test]
+fn the_walk_of_terms_has_terms_only() {
+    let filling = answers(&walks::terms_only(0));
+    let numbered: Vec<String> = (0..512).map(|number| format!("TM {number}")).collect();
+    let added: BTreeSet<&String> = filling.iter().collect();
+    assert_eq!(added, numbered.iter().collect());
+    let repeated = answers(&walks::terms_only(8)).split_off(filling.len());
+    assert!(repeated.iter().all(|answer| answer.starts_with("TM ")));
+    let full = count(&repeated, "TM refused 20");
+    assert!(full.abs_diff(repeated.len() / 2) <= 1, "{full}");
+    let present: BTreeSet<&String> = repeated.iter().collect();
+    assert!(present.len() > 250, "terms all over the table");
+}
+
+#[test]
+fn the_first_term_is_asked_for() {
+    let filling = answers(&walks::first_term(0)).len();
+    let repeated = answers(&walks::first_term(8)).split_off(filling);
+    assert_eq!(count(&repeated, "TM 0"), repeated.len());
+    assert_eq!(realm(&walks::first_term(8)).terms.count(), 512);
+}
+
+#[test]
+fn deliveries_meet_full_tables() {
+    let realm = realm(&walks::deliveries(0));
+    assert_eq!((realm.terms.count(), realm.runs.len(), realm.cache.len()), (512, 64, 16));
+    let filling = answers(&walks::deliveries(0)).len();
+    let repeated = answers(&walks::deliveries(8)).split_off(filling);
+    let expected = ["refused 18", "refused 19", "refused 17", "refused 15", "refused 16", "ok -"];
+    for (answer, expected) in repeated.iter().zip(expected.iter().cycle()) {
+        assert_eq!(answer, &format!("ST {expected}"));
+    }
+}
+
+/// Each key comes out of a reply that stands below what the key opens, so that
+/// a sweep from above opens a key too late for the same sweep. The reference's
+/// order is the other one: it opens what stands above in the same pass.
+#[test]
+fn keys_are_in_the_worst_order() {
+    let (walk, _) = deliveries::filled();
+    let terms = &walk.realm.terms;
+    let on_wire = |message: &&Message| walk.realm.wire.contains(*message);
+    let mut opened = 0;
+    for lock in terms.present().iter().filter(on_wire) {
+        let Some(key) = lock.encrypted().and_then(|(_, key)| key.session_key()) else { continue };
+        let reply = terms.present().iter().filter(on_wire).find(|message| {
+            let Some((body, under)) = message.encrypted() else { return false };
+            let Some((first, _)) = body.pair() else { return false };
+            let bad = under.long_term_key().is_some_and(|p| walk.realm.header.is_bad(p));
+            bad && first.session_key() == Some(key)
+        });
+        assert!(terms.number(reply.unwrap()) < terms.number(lock));
+        opened += 1;
+    }
+    assert_eq!(opened, 20 + 16, "authenticators and confirmations");
+    assert_eq!(sweeps(&walk.realm), 3);
+}
+
+#[test]
+fn deep_terms_are_deep_and_shared() {
+    let realm = realm(&walks::deep(0));
+    assert_eq!(realm.terms.count(), 512);
+    let (mut depth, mut leaves) = (Vec::new(), Vec::new());
+    for message in realm.terms.present() {
+        let parts = message.pair().or(message.encrypted());
+        let (d, l) = match parts {
+            None => (1, 1.0),
+            Some((one, other)) => {
+                let at = |part| usize::from(realm.terms.number(part).unwrap());
+                let (one, other) = (at(one), at(other));
+                (1 + usize::max(depth[one], depth[other]), leaves[one] + leaves[other])
+            }
+        };
+        depth.push(d);
+        leaves.push(l);
+    }
+    assert!(depth[510] > 250 && depth[511] > 250);
+    assert!(leaves[510] > 1e50 && leaves[511] > 1e50, "as trees they are beyond reach");
+    let repeated = answers(&walks::deep(8)).split_off(511);
+    let half = repeated.len() / 2;
+    assert!(count(&repeated, "ST ok -").abs_diff(half) <= 1);
+    assert!(count(&repeated, "ST refused 15").abs_diff(half) <= 1);
+}
+
+#[test]
+fn damaged_files_are_turned_away_in_every_way() {
+    let files = walks::damaged(8);
+    assert_eq!(files.len(), walks::DAMAGED_FILES);
+    let listings: Vec<String> = files.iter().map(|file| listing(file)).collect();
+    for refusal in 1..=3 {
+        let end = format!("file refused {refusal}\n");
+        let refused = listings.iter().filter(|listing| listing.contains(&end)).count();
+        assert!(refused > files.len() / 20, "refusal {refusal}: {refused}");
+    }
+    let turned_away = listings.iter().filter(|listing| listing.contains("file refused")).count();
+    assert!(turned_away > files.len() * 2 / 3, "{turned_away}");
+}
+
+#[test]
+fn small_files_are_many_and_small() {
+    let files = walks::small(8);
+    assert_eq!(files.len(), walks::SMALL_FILES);
+    assert!(files.iter().all(|file| file.len() <= walks::SMALL_BYTES));
+    let records: usize = files.iter().map(|file| lines(file).len()).sum();
+    assert!(records > 20 * files.len(), "{records}");
+}
