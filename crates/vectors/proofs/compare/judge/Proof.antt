@@ -1,0 +1,67 @@
+-- `judge` meets its contract: the buffer has room, and what `list` wrote into it is the listing. Assumes nothing.
+use mathlib.Core.List.{List}
+use mathlib.Core.Path.{_≡_, sym, ap, _∙_}
+use Prim.Native.Nat.{ℕ}
+use native.Mathlib.Omega.{arith}
+use lib.ListN.{replicate, length-replicate}
+use borrow.Author.Needs.{needs}
+use Rattle.walkfile.specs.declared.Listing.{Listing}
+use Rattle.walkfile.specs.Listing.{outcome, written, listed}
+use Rattle.walkfile.specs.Promises.{counts, start-is}
+use Rattle.vectors.specs.Compare.{difference}
+use Rattle.vectors.specs.Laws.{has-room}
+use Rattle.vectors.proofs.compare.judge.Statement.{statement}
+use Rattle.vectors.proofs.compare.judge.Tie as tie
+
+slice-aggregate-list : tie.Need-slice-aggregate-list
+slice-aggregate-list c = search needs
+
+list-requires : tie.Need-list-requires
+list-requires c κs = search needs
+
+enum-told : tie.Need-enum-told
+enum-told c = search needs
+
+enum-known-end : tie.Need-enum-known-end
+enum-known-end c = search needs
+
+-- what was written, as the law on the buffer has it
+wrote : (c : tie.After-known-told)
+    → written (c .before .end .given .0 .0) (c .before .before .before .before .list .last .1 .0)
+    ≡ listed (c .before .before .before .before .before .before .before .before .args .file .now) (replicate 224758 0)
+wrote c = let l = c .before .before .before .before .list in
+    ap (λ (r : Listing). outcome r (l .last .1 .0)) (sym (c .before .end .given .1)) ∙ l .ensures
+
+array-share-prefix-out : tie.Need-array-share-prefix-out
+array-share-prefix-out c = counts _ _ _ _ (wrote c) .0
+
+slice-aggregate-first-difference : tie.Need-slice-aggregate-first-difference
+slice-aggregate-first-difference c = counts _ _ _ _ (wrote (c .before)) .1
+
+first-difference-requires : tie.Need-first-difference-requires
+first-difference-requires c κs = search needs
+
+returns : tie.Need-returns
+returns c =
+    let l = c .before .before .before .list in
+    let none = ap (λ (r : Listing). outcome r (l .last .1 .0)) (sym (c .enum-told .given .1)) ∙ l .ensures in
+    absurd (has-room _ (replicate 224758 0) (l .last .1 .0) (omega (arith, length-replicate {A = ℕ} 224758 0)) none)
+
+returns-2 : tie.Need-returns-2
+returns-2 c =
+    let a = c .before .before .before .before .before .before .before .before .before .before .args in
+    c .first-difference .ensures ∙ ap (λ (xs : List ℕ). difference 1 xs (a .stored .now)) (start-is _ _ _ _ (wrote (c .before .before)))
+
+pub judge-spec : {M : Type 1} → statement M
+judge-spec =
+    tie.close
+    (tie.spec
+    slice-aggregate-list
+    list-requires
+    enum-told
+    enum-known-end
+    array-share-prefix-out
+    slice-aggregate-first-difference
+    first-difference-requires
+    returns
+    returns-2)

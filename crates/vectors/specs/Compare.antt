@@ -1,0 +1,29 @@
+-- Where two texts differ, and what is counted.
+-- Assumes nothing.
+use mathlib.Core.Bool.{Bool, true, false}
+use mathlib.Core.List.{List, [], _∷_}
+use Prim.Native.Nat.{ℕ, suc}
+use lib.Dec.{eqb}
+use Rattle.terms.specs.Choice.{pick}
+use Rattle.vectors.specs.declared.compare.Verdict.{Verdict}
+use Rattle.vectors.specs.declared.compare.Verdict.the-variants.{Same, Line}
+
+-- the line of the byte that follows this one
+abbrev pub lineAfter : (line byte : ℕ) → ℕ
+lineAfter line byte = pick (eqb byte 10) (suc line) line
+
+-- the line of the first byte in which two texts differ, or that only one of them has
+unfoldable pub difference : (line : ℕ) → List ℕ → List ℕ → Verdict
+difference line [] [] = Same
+difference line [] (y ∷ ys) = Line line
+difference line (x ∷ xs) [] = Line line
+difference line (x ∷ xs) (y ∷ ys) = pick (eqb x y) (difference (lineAfter line x) xs ys) (Line line)
+
+abbrev pub isSame : Verdict → Bool
+isSame Same = true
+isSame (Line line) = false
+
+-- what a walk adds to the number of those that do not agree
+abbrev pub disagreements : (agrees : Bool) → ℕ
+disagreements true = 0
+disagreements false = 1
