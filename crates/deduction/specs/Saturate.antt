@@ -1,6 +1,6 @@
 -- Sweeps until one adds nothing: what holds after each, and at the end.
 -- Assumes nothing.
-use mathlib.Core.Path.{_≡_, refl}
+use mathlib.Core.Path.{_≡_, refl, sym, subst}
 use mathlib.Core.Bool.{true}
 use mathlib.Core.List.{List}
 use Prim.Native.Nat.{ℕ, _-_, _<_}
@@ -43,3 +43,7 @@ module _ (flags : ℕ) {n : ℕ} {ts : List ℕ} {count : ℕ} (v : Valid n ts c
 
     pub fill-done : size (sweepOf flags ts count s) ≡ size s → Filled n flags ts count ws s
     fill-done e = record { filling = f; full = sweep-saturated flags v (f .grown .words) e }
+
+    -- the set after a sweep that adds nothing is the set before it
+    pub fill-swept : size (sweepOf flags ts count s) ≡ size s → Filled n flags ts count ws (sweepOf flags ts count s)
+    fill-swept e = subst (Filled n flags ts count ws) (sym (sweep-grown flags v count (le-refl count) (f .grown .words) .same e)) (fill-done e)

@@ -1,8 +1,8 @@
 // The terms that the intruder knows: those on the wire, and what known pairs and encryptions give.
 use marks::flagged;
-use marks::has;
+use marks::is_marked;
+use marks::mark;
 use marks::members;
-use marks::with;
 use words::Term;
 use words::decode;
 ghost use mathlib.Core.Path.{_≡_};
@@ -40,63 +40,61 @@ pub fn is_public(flags: u16, t: Term) -> bool
 }
 
 // Whether encryptions under key k can be opened: it is known or public.
-fn opens(terms: &[u64], flags: u16, set: [u64; 8], k: usize) -> bool
-    requires { ⌜ (length (now terms) ≡ 512) × (k < 512) ⌝ }
-    ensures { λ r. ⌜ r ≡ opensOf flags (now (terms .entry)) set k ⌝ }
+fn opens(terms: &[u64], flags: u16, set: &[u64], k: usize) -> bool
+    requires { ⌜ (length (now terms) ≡ 512) × (length (now set) ≡ 8) × (k < 512) ⌝ }
+    ensures { λ r. ⌜ r ≡ opensOf flags (now (terms .entry)) (now (set .entry)) k ⌝ }
 {
-    if has(set, k) {
+    if is_marked(set, k) {
         return true;
     }
     is_public(flags, decode(terms[k]))
 }
 
-// The set with the parts that a known term gives.
-fn parts(terms: &[u64], flags: u16, set: [u64; 8], t: Term) -> [u64; 8]
-    requires { ⌜ (length (now terms) ≡ 512) × Under 512 t ⌝ }
-    ensures { λ r. ⌜ r ≡ partsOf flags (now (terms .entry)) set t ⌝ }
+// Marks the parts that a known term gives.
+fn parts(terms: &[u64], flags: u16, set: &mut [u64], t: Term)
+    requires { ⌜ (length (now terms) ≡ 512) × (length (now set) ≡ 8) × Under 512 t ⌝ }
+    ensures { λ _. ⌜ now (set .exit) ≡ partsOf flags (now (terms .entry)) (now (set .entry)) t ⌝ }
 {
     match t {
-        Term::Principal(_) => set,
-        Term::Time(_) => set,
-        Term::Nonce(_) => set,
-        Term::LongTermKey(_) => set,
-        Term::SessionKey(_) => set,
-        Term::Pair(l, r) => with(with(set, l as usize), r as usize),
+        Term::Principal(_) => {}
+        Term::Time(_) => {}
+        Term::Nonce(_) => {}
+        Term::LongTermKey(_) => {}
+        Term::SessionKey(_) => {}
+        Term::Pair(l, r) => {
+            mark(set, l as usize);
+            mark(set, r as usize);
+        }
         Term::Encrypted(b, k) => {
             if opens(terms, flags, set, k as usize) {
-                return with(set, b as usize);
+                mark(set, b as usize);
             }
-            set
         }
-        Term::Unknown => set,
+        Term::Unknown => {}
     }
 }
 
-// The set with the parts that term i gives, if it is known.
-fn visit(terms: &[u64], count: usize, who: Principals, set: [u64; 8], i: usize) -> [u64; 8]
-    requires { ⌜ Valid (who .n) (now terms) count × (i < count) ⌝ }
-    ensures { λ r. ⌜ r ≡ visitOf (who .flags) (now (terms .entry)) set i ⌝ }
+// Marks the parts that term i gives, if it is known.
+fn visit(terms: &[u64], count: usize, who: Principals, set: &mut [u64], i: usize)
+    requires { ⌜ Valid (who .n) (now terms) count × (length (now set) ≡ 8) × (i < count) ⌝ }
+    ensures { λ _. ⌜ now (set .exit) ≡ visitOf (who .flags) (now (terms .entry)) (now (set .entry)) i ⌝ }
 {
     let flags = who.flags;
-    if has(set, i) {
-        return parts(terms, flags, set, decode(terms[i]));
+    if is_marked(set, i) {
+        parts(terms, flags, set, decode(terms[i]));
     }
-    set
 }
 
 // One sweep over the terms, the last first.
-fn sweep(terms: &[u64], count: usize, who: Principals, set: [u64; 8]) -> [u64; 8]
-    requires { ⌜ Valid (who .n) (now terms) count ⌝ }
-    ensures { λ r. ⌜ r ≡ sweepOf (who .flags) (now (terms .entry)) count set ⌝ }
+fn sweep(terms: &[u64], count: usize, who: Principals, set: &mut [u64])
+    requires { ⌜ Valid (who .n) (now terms) count × (length (now set) ≡ 8) ⌝ }
+    ensures { λ _. ⌜ now (set .exit) ≡ sweepOf (who .flags) (now (terms .entry)) count (now (set .entry)) ⌝ }
 {
-    let mut s = set;
     let mut i = count;
     while 0 < i {
         i -= 1;
-        let next = visit(terms, count, who, s, i);
-        s = next;
+        visit(terms, count, who, set, i);
     }
-    s
 }
 
 // The set with all that opening and splitting gives: sweeps until one adds nothing.
@@ -105,14 +103,13 @@ pub fn saturate(terms: &[u64], count: usize, who: Principals, set: [u64; 8]) -> 
     ensures { λ r. ⌜ Filled (who .n) (who .flags) (now (terms .entry)) count set r ⌝ }
 {
     let mut s = set;
-    let mut size = members(set);
+    let mut size = members(s);
     loop {
-        let next = sweep(terms, count, who, s);
-        let more = members(next);
+        sweep(terms, count, who, &mut s);
+        let more = members(s);
         if more == size {
             return s;
         }
-        s = next;
         size = more;
     }
 }

@@ -8,14 +8,22 @@ ghost use Rattle.marks.specs.Within.{within};
 // How many numbers a set of 8 words has places for.
 pub const PLACES: usize = 512;
 
-// Whether i is in the set.
+// Whether i is in a lent set. The caller knows that it has 8 words and that i has a place.
+pub fn is_marked(set: &[u64], i: usize) -> bool
+    requires { ⌜ (length (now set) ≡ 8) × (i < 512) ⌝ }
+    ensures { λ r. ⌜ r ≡ marked (now (set .entry)) i ⌝ }
+{
+    set[i / 64] >> (i % 64) & 1 == 1
+}
+
+// Whether i is in the set; a number with no place is not.
 pub fn has(set: [u64; 8], i: usize) -> bool
     ensures { λ r. ⌜ r ≡ marked set i ⌝ }
 {
     if PLACES <= i {
         return false;
     }
-    set[i / 64] >> (i % 64) & 1 == 1
+    is_marked(&set, i)
 }
 
 // The set with i in it; a number with no place changes nothing.

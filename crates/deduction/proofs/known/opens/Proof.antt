@@ -5,11 +5,11 @@ use borrow.Author.Needs.{needs}
 use Rattle.deduction.proofs.known.opens.Statement.{statement}
 use Rattle.deduction.proofs.known.opens.Tie as tie
 
-has-requires : tie.Need-has-requires
-has-requires c κs = search needs
+is-marked-requires : tie.Need-is-marked-requires
+is-marked-requires c κs = search needs
 
 returns : tie.Need-returns
-returns c = simp (sym (c .before .has .ensures) ∙ c .if1 .taken)
+returns c = simp (sym (c .before .is-marked .ensures) ∙ c .if1 .taken)
 
 mul-decode : tie.Need-mul-decode
 mul-decode c = search needs
@@ -25,14 +25,14 @@ is-public-requires c κs = search needs
 
 returns-2 : tie.Need-returns-2
 returns-2 c =
-    simp (sym (c .before .before .before .before .has .ensures) ∙ c .before .before .before .if1 .left)
+    simp (sym (c .before .before .before .before .is-marked .ensures) ∙ c .before .before .before .if1 .left)
     (c .is-public .ensures ∙ ap (publicOf _) (c .before .decode .ensures))
 
 pub opens-spec : {M : Type 1} → statement M
 opens-spec =
     tie.close
     (tie.spec
-    has-requires
+    is-marked-requires
     returns
     mul-decode
     shared-slice-read-decode

@@ -6,7 +6,7 @@ use lib.ListN.{getD}
 use mir.Syntax.{w64}
 use mir.Val.{Fits}
 use Rattle.marks.specs.Marks.{Words, size}
-use Rattle.deduction.specs.Saturate.{Filling, fill-start, fill-more, fill-less, fill-done}
+use Rattle.deduction.specs.Saturate.{Filling, fill-start, fill-more, fill-less, fill-swept}
 use Rattle.deduction.specs.Sweep.{sweepOf}
 use Rattle.deduction.proofs.known.saturate.Statement.{statement}
 use Rattle.deduction.proofs.known.saturate.Tie as tie
@@ -23,11 +23,11 @@ words c = record { len = search needs; fit = λ k. fits c k .fits }
     fits : (c : tie.Start Inv-loop μ-loop) (k : ℕ) → Fits w64 (getD (c .args .set) k 0)
     fits c k = search needs
 
--- the size of the next set
+-- the size after the sweep
 next-size : (c : tie.After-members2 Inv-loop μ-loop)
-    → let start = c .before .before .before .before .before in
-    c .members2 .result ≡ size (sweepOf (start .args .who .flags) (start .args .terms .now) (start .args .count) (c .before .before .loop .s))
-next-size c = c .members2 .ensures ∙ ap size (c .before .sweep .ensures)
+    → let start = c .before .before .before .before .before .before .before in
+    c .members2 .result ≡ size (sweepOf (start .args .who .flags) (start .args .terms .now) (start .args .count) (c .before .before .before .before .loop .s))
+next-size c = c .members2 .ensures ∙ ap size (c .before .before .sweep .ensures)
 
 members-requires : tie.Need-members-requires Inv-loop μ-loop
 members-requires c κs = search needs
@@ -35,30 +35,34 @@ members-requires c κs = search needs
 loop-holds : tie.Need-loop-holds Inv-loop μ-loop
 loop-holds c = (fill-start (c .before .before .args .who .flags) (c .before .before .pre) (words (c .before .before)), c .members .ensures)
 
+slice-aggregate-sweep : tie.Need-slice-aggregate-sweep Inv-loop μ-loop
+slice-aggregate-sweep c = search needs
+
 sweep-requires : tie.Need-sweep-requires Inv-loop μ-loop
-sweep-requires c κs = search needs
+sweep-requires c κs = (c .before .before .before .before .pre, c .before .loop .inv .0 .grown .words .len)
 
 members-requires-2 : tie.Need-members-requires-2 Inv-loop μ-loop
 members-requires-2 c κs = search needs
 
 returns : tie.Need-returns Inv-loop μ-loop
 returns c =
-    let start = c .before .before .before .before .before .before in
-    let at = c .before .before .before .loop in
-    fill-done (start .args .who .flags) (start .pre) (at .inv .0) (sym (next-size (c .before)) ∙ c .if1 .taken ∙ at .inv .1)
+    let start = c .before .before .before .before .before .before .before .before in
+    let at = c .before .before .before .before .before .loop in
+    rw (c .before .before .before .sweep .ensures)
+    (fill-swept (start .args .who .flags) (start .pre) (at .inv .0) (sym (next-size (c .before)) ∙ c .if1 .taken ∙ at .inv .1))
 
 loop-less : tie.Need-loop-less Inv-loop μ-loop
 loop-less c =
-    let start = c .before .before .before .before .before .before in
-    let at = c .before .before .before .loop in
-    rw (c .before .before .sweep .ensures)
+    let start = c .before .before .before .before .before .before .before .before in
+    let at = c .before .before .before .before .before .loop in
+    rw (c .before .before .before .sweep .ensures)
     (fill-less (start .args .who .flags) (start .pre) (at .inv .0) (λ e. c .if1 .left (next-size (c .before) ∙ e ∙ sym (at .inv .1))))
 
 loop-again : tie.Need-loop-again Inv-loop μ-loop
 loop-again c =
-    let start = c .before .before .before .before .before .before in
-    let at = c .before .before .before .loop in (
-      rw (c .before .before .sweep .ensures) (fill-more (start .args .who .flags) (start .pre) (at .inv .0)),
+    let start = c .before .before .before .before .before .before .before .before in
+    let at = c .before .before .before .before .before .loop in (
+      rw (c .before .before .before .sweep .ensures) (fill-more (start .args .who .flags) (start .pre) (at .inv .0)),
       c .before .members2 .ensures,
     )
 
@@ -70,6 +74,7 @@ saturate-spec =
     μ-loop
     members-requires
     loop-holds
+    slice-aggregate-sweep
     sweep-requires
     members-requires-2
     returns

@@ -7,8 +7,8 @@ use borrow.Author.Needs.{needs}
 use Rattle.deduction.proofs.known.visit.Statement.{statement}
 use Rattle.deduction.proofs.known.visit.Tie as tie
 
-has-requires : tie.Need-has-requires
-has-requires c κs = search needs
+is-marked-requires : tie.Need-is-marked-requires
+is-marked-requires c κs = search needs
 
 mul-decode : tie.Need-mul-decode
 mul-decode c = search needs
@@ -21,28 +21,39 @@ decode-requires c κs = search needs
 
 parts-requires : tie.Need-parts-requires
 parts-requires c κs =
-    let start = c .before .before .before .before .before in
-    let v = start .pre .0 in
-    (v .size, subst (Under 512) (sym (c .decode .ensures)) (under-at (v .terms) (start .args .i) 512 (start .pre .1) (omega (arith, v .room, start .pre .1))))
+    let start = c .before .before .before .before .before .before .before .before in
+    let v = start .pre .0 in (
+      v .size,
+      start .pre .1,
+      subst (Under 512) (sym (c .decode .ensures)) (under-at (v .terms) (start .args .i) 512 (start .pre .2) (omega (arith, v .room, start .pre .2))),
+    )
+
+same-length : tie.Need-same-length
+same-length c = search needs
 
 returns : tie.Need-returns
 unfolding visitOf
 returns c =
-    simp (sym (c .before .before .before .before .has .ensures) ∙ c .before .before .before .if1 .taken)
-    (c .parts .ensures ∙ ap (partsOf _ _ _) (c .before .decode .ensures))
+    simp (sym (c .before .before .before .before .before .before .before .is-marked .ensures) ∙ c .before .before .before .before .before .before .if1 .taken)
+    (c .before .before .parts .ensures ∙ ap (partsOf _ _ _) (c .before .before .before .decode .ensures))
+
+same-length-2 : tie.Need-same-length-2
+same-length-2 c = search needs
 
 returns-2 : tie.Need-returns-2
 unfolding visitOf
-returns-2 c = simp (sym (c .before .has .ensures) ∙ c .if1 .left)
+returns-2 c = simp (sym (c .before .is-marked .ensures) ∙ c .if1 .left)
 
 pub visit-spec : {M : Type 1} → statement M
 visit-spec =
     tie.close
     (tie.spec
-    has-requires
+    is-marked-requires
     mul-decode
     shared-slice-read-decode
     decode-requires
     parts-requires
+    same-length
     returns
+    same-length-2
     returns-2)
