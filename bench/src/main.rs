@@ -120,57 +120,73 @@ fn grown(figures: [f64; 4]) -> Vec<String> {
 
 const CALLS: u32 = 100;
 
-/// Microseconds of the call by the engine and by the reference.
-fn call_times(call: &mut Call) -> [f64; 2] {
-    let Both { tables, realm } = &mut call.both;
-    let record = &call.record;
-    let times = least_of([
-        &mut || {
-            for _ in 0..CALLS {
-                black_box(tables.call(black_box(record)));
-            }
-        },
-        &mut || {
-            for _ in 0..CALLS {
-                let _ = black_box(realm.apply(black_box(record)));
-            }
-        },
-    ]);
-    times.map(|time| microseconds(time / CALLS))
+/// Microseconds of a call.
+struct CallTimes {
+    /// The check of the tables alone, which the reference has not got.
+    check: f64,
+    engine: f64,
+    reference: f64,
 }
 
-/// The first call is the check of the tables alone, which the reference has not
-/// got, so the others are compared without it; the second makes one sweep.
+impl CallTimes {
+    fn over(&self) -> f64 {
+        self.engine - self.check
+    }
+}
+
+fn call_times(mut call: Call) -> CallTimes {
+    let check = call.check();
+    let record = call.record;
+    let mut again = call.both.tables.clone();
+    let Both { tables, realm } = &mut call.both;
+    let times = least_of([
+        &mut || (0..CALLS).for_each(|_| drop_answer(again.call(black_box(&check)))),
+        &mut || (0..CALLS).for_each(|_| drop_answer(tables.call(black_box(&record)))),
+        &mut || (0..CALLS).for_each(|_| drop_answer(realm.apply(black_box(&record)))),
+    ]);
+    let [check, engine, reference] = times.map(|time| microseconds(time / CALLS));
+    CallTimes { check, engine, reference }
+}
+
+fn drop_answer<Answer>(answer: Answer) {
+    black_box(answer);
+}
+
 fn public_calls() {
-    head(&["Call", "Sweeps", "Engine", "Over step 7", "In sweeps", "Reference", "Ratio"]);
+    let names =
+        ["Call", "Sweeps", "Engine", "The check", "Over it", "In sweeps", "Reference", "Ratio"];
+    head(&names);
     let mut all = calls(512);
     all.push(delivery());
-    let times: Vec<[f64; 2]> = all.iter_mut().map(call_times).collect();
-    let (check, sweep) = (times[0][0], times[1][0] - times[0][0]);
-    for (call, [engine, reference]) in all.iter().zip(times) {
-        let mut cells = vec![call.name.to_string(), call.sweeps.to_string(), figure(engine)];
-        let over = engine - check;
-        if call.sweeps > 0 {
-            cells.extend([over, over / sweep, reference, over / reference].map(figure));
-        } else {
-            cells.extend(["", "", &figure(reference), ""].map(String::from));
-        }
+    let mut sweep = None;
+    for call in all {
+        let mut cells = vec![call.name.to_string(), call.sweeps.to_string()];
+        let times = call_times(call);
+        let over = times.over();
+        let sweep = *sweep.get_or_insert(over);
+        let CallTimes { check, engine, reference } = times;
+        let figures = [engine, check, over, over / sweep, reference, over / reference];
+        cells.extend(figures.map(figure));
         line(&cells);
     }
 }
 
-/// Step 7, and what the others take over it.
+/// The check, and what the calls take over it.
 fn growth_of_calls() {
     head(&["Call", "64 terms", "128", "256", "512", "512 to 64"]);
     let sizes = [64, 128, 256, 512].map(calls);
-    let names: Vec<&str> = sizes[0].iter().map(|call| call.name).collect();
-    let times = sizes.map(|mut all| all.iter_mut().map(|call| call_times(call)[0]).collect());
-    let [one, two, four, eight]: [Vec<f64>; 4] = times;
-    for (number, name) in names.iter().enumerate() {
-        let over = |times: &Vec<f64>| times[number] - if number > 0 { times[0] } else { 0.0 };
-        let mut cells =
-            vec![if number > 0 { format!("{name}, over step 7") } else { name.to_string() }];
-        cells.extend(grown([&one, &two, &four, &eight].map(over)));
+    let mut names: Vec<String> =
+        sizes[0].iter().map(|call| format!("{}, over it", call.name)).collect();
+    names.insert(0, "the check of the tables".into());
+    let figures = sizes.map(|calls| {
+        let times: Vec<CallTimes> = calls.into_iter().map(call_times).collect();
+        let mut figures = vec![times[0].check];
+        figures.extend(times.iter().map(CallTimes::over));
+        figures
+    });
+    for (number, name) in names.into_iter().enumerate() {
+        let mut cells = vec![name];
+        cells.extend(grown([0, 1, 2, 3].map(|size: usize| figures[size][number])));
         line(&cells);
     }
 }
