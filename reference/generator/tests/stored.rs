@@ -1,12 +1,13 @@
 //! The walks stored for the program `vectors`: the list names every file, each
-//! listing is the reference's, and together they meet every cell that is wanted.
+//! listing is the reference's, and together they meet every cell.
 
 use std::collections::HashSet;
 use std::fs;
 use std::path::PathBuf;
 
+use generator::cells::main_cells;
 use generator::coverage::cells_met;
-use generator::vectors::wanted_cells;
+use generator::edges::edge_cells;
 
 fn directory() -> PathBuf {
     PathBuf::from(env!("CARGO_MANIFEST_DIR")).join("../../crates/vectors/data")
@@ -43,12 +44,12 @@ fn every_listing_is_the_references() {
 }
 
 #[test]
-fn every_wanted_cell_is_met() {
+fn every_cell_is_met() {
     let mut met = HashSet::new();
     for (walk, _) in pairs() {
         met.extend(cells_met(&fs::read(directory().join(walk)).unwrap()));
     }
-    let left_out: Vec<String> =
-        wanted_cells().into_iter().filter(|cell| !met.contains(cell)).collect();
+    let cells = main_cells().into_iter().chain(edge_cells());
+    let left_out: Vec<String> = cells.filter(|cell| !met.contains(cell)).collect();
     assert!(left_out.is_empty(), "{left_out:?}");
 }
