@@ -12,6 +12,9 @@ use compare::Totals;
 use compare::Verdict;
 use compare::counted;
 use compare::judge;
+use io::print_decimal;
+use io::write_all;
+use libc::STDOUT_FILENO;
 use walkfile::LISTING_BYTES;
 ghost use mathlib.Core.Path.{_≡_};
 ghost use Prim.Native.Nat.{_<_, _≤_};
@@ -24,41 +27,20 @@ const WALK_BYTES: usize = 65537;
 
 const LIST_BYTES: usize = 65536;
 
-// How many bytes were read, and whether they are the whole file.
-struct Input {
-    count: usize,
-    whole: bool,
-}
-
-fn text(bytes: &[u8]) {
-    io::write_all(1, bytes);
-}
-
-fn number(n: u64) {
-    io::print_decimal(1, n);
-}
-
-// `read_full` does not tell the end of a file from a failure, so one more read has to find the end.
-fn read_whole(fd: i32, buffer: &mut [u8]) -> Input
-    ensures { λ r. ⌜ Counts (r .count) (now (buffer .exit)) ⌝ }
-{
-    let count = io::read_full(fd, buffer);
-    let mut past = [0u8; 1];
-    let whole = libc::read(fd, &mut past) == 0;
-    Input { count, whole }
-}
-
-fn read_file(path: &[u8], buffer: &mut [u8]) -> Input
-    ensures { λ r. ⌜ Counts (r .count) (now (buffer .exit)) ⌝ }
+// How many bytes of a file were read; a line if they are not all of it. `read_full` does not tell the end of a file from a
+// failure, so one more read has to find the end.
+fn read_file(path: &[u8], buffer: &mut [u8]) -> usize
+    ensures { λ r. ⌜ Counts r (now (buffer .exit)) ⌝ }
 {
     let fd = os::open_read(path);
-    let input = read_whole(fd, buffer);
-    libc::close(fd);
-    if !input.whole {
-        text(path);
-        text(b": cannot be read whole\n");
+    let count = io::read_full(fd, buffer);
+    let mut past = [0u8; 1];
+    if libc::read(fd, &mut past) != 0 {
+        write_all(STDOUT_FILENO, path);
+        write_all(STDOUT_FILENO, b": cannot be read whole\n");
     }
-    input
+    libc::close(fd);
+    count
 }
 
 // Whether the verdict is that a walk agrees; a line if not.
@@ -68,26 +50,20 @@ fn told(walk: &[u8], verdict: Verdict) -> bool
     match verdict {
         Verdict::Same => true,
         Verdict::Line(line) => {
-            text(walk);
-            text(b": line ");
-            number(line as u64);
-            text(b" differs\n");
+            write_all(STDOUT_FILENO, walk);
+            write_all(STDOUT_FILENO, b": line ");
+            print_decimal(STDOUT_FILENO, line as u64);
+            write_all(STDOUT_FILENO, b" differs\n");
             false
         }
     }
 }
 
-// Whether a walk agrees with its listing; not if one of the two files cannot be read.
 fn agrees(walk: &[u8], listing: &[u8]) -> bool {
     let mut file = [0u8; WALK_BYTES];
     let mut stored = [0u8; LISTING_BYTES];
-    let walk_input = read_file(walk, &mut file);
-    let listing_input = read_file(listing, &mut stored);
-    if !walk_input.whole || !listing_input.whole {
-        return false;
-    }
-    let end = walk_input.count;
-    let listing_end = listing_input.count;
+    let end = read_file(walk, &mut file);
+    let listing_end = read_file(listing, &mut stored);
     told(walk, judge(&file[..end], &stored[..listing_end]))
 }
 
@@ -121,34 +97,29 @@ fn run(list: &[u8], first: usize) -> Totals {
     totals
 }
 
-// Whether a text is this number.
-fn says(line: &[u8], n: u64) -> bool {
-    let mut digits = [0u8; 20];
-    let count = io::decimal(n, &mut digits);
-    same(line, &digits[..count])
-}
-
 fn run_list(list: &[u8]) {
     if list.len() == 0 {
-        text(b"files: empty\n");
+        write_all(STDOUT_FILENO, b"files: empty\n");
         return;
     }
     let first = line_after(list, 0);
     let totals = run(list, first);
-    if !says(&list[0..first - 1], totals.walks) {
-        text(b"files: not the number of walks that the first line says\n");
+    let mut digits = [0u8; 20];
+    let count = io::decimal(totals.walks, &mut digits);
+    if !same(&list[0..first - 1], &digits[..count]) {
+        write_all(
+            STDOUT_FILENO,
+            b"files: not the number of walks that the first line says\n",
+        );
     }
-    number(totals.walks);
-    text(b" walks, ");
-    number(totals.differ);
-    text(b" differ\n");
+    print_decimal(STDOUT_FILENO, totals.walks);
+    write_all(STDOUT_FILENO, b" walks, ");
+    print_decimal(STDOUT_FILENO, totals.differ);
+    write_all(STDOUT_FILENO, b" differ\n");
 }
 
 fn main() {
     let mut list = [0u8; LIST_BYTES];
-    let input = read_file(b"files", &mut list);
-    let count = input.count;
-    if input.whole {
-        run_list(&list[..count]);
-    }
+    let count = read_file(b"files", &mut list);
+    run_list(&list[..count]);
 }
