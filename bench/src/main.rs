@@ -2,6 +2,7 @@
 //!
 //! `--times` leaves the instructions out. `pass SIDE FILE` is what callgrind runs.
 
+use std::cell::RefCell;
 use std::hint::black_box;
 use std::path::Path;
 use std::process::exit;
@@ -11,8 +12,9 @@ use bench::calls::{calls, delivery, Both, Call};
 use bench::rows::{Row, ROWS};
 use bench::sides::{buffer, compare, Side};
 use bench::table::{figure, head, line, microseconds, milliseconds};
-use bench::timing::least_of;
+use bench::timing::{least, least_of, over, turns_of};
 use bench::{callgrind, walks};
+use reference::file::Record;
 
 fn main() -> io::Result<()> {
     let words: Vec<String> = env::args().skip(1).collect();
@@ -122,30 +124,27 @@ const CALLS: u32 = 100;
 
 /// Microseconds of a call.
 struct CallTimes {
+    engine: f64,
     /// The check of the tables alone, which the reference has not got.
     check: f64,
-    engine: f64,
+    /// The engine over the check.
+    over: f64,
     reference: f64,
 }
 
-impl CallTimes {
-    fn over(&self) -> f64 {
-        self.engine - self.check
-    }
-}
-
-fn call_times(mut call: Call) -> CallTimes {
-    let check = call.check();
-    let record = call.record;
-    let mut again = call.both.tables.clone();
-    let Both { tables, realm } = &mut call.both;
-    let times = least_of([
-        &mut || (0..CALLS).for_each(|_| drop_answer(again.call(black_box(&check)))),
-        &mut || (0..CALLS).for_each(|_| drop_answer(tables.call(black_box(&record)))),
-        &mut || (0..CALLS).for_each(|_| drop_answer(realm.apply(black_box(&record)))),
-    ]);
-    let [check, engine, reference] = times.map(|time| microseconds(time / CALLS));
-    CallTimes { check, engine, reference }
+fn call_times(call: Call) -> CallTimes {
+    let (check, record) = (call.check(), call.record);
+    let Both { tables, mut realm } = call.both;
+    let tables = RefCell::new(tables);
+    let calls = |record: &Record| {
+        let mut tables = tables.borrow_mut();
+        (0..CALLS).for_each(|_| drop_answer(tables.call(black_box(record))));
+    };
+    let turns = turns_of([&mut || calls(&check), &mut || calls(&record), &mut || {
+        (0..CALLS).for_each(|_| drop_answer(realm.apply(black_box(&record))))
+    }]);
+    let [check, engine, reference] = least(&turns).map(|time| microseconds(time / CALLS));
+    CallTimes { engine, check, over: over(&turns) * 1e6 / f64::from(CALLS), reference }
 }
 
 fn drop_answer<Answer>(answer: Answer) {
@@ -161,10 +160,8 @@ fn public_calls() {
     let mut sweep = None;
     for call in all {
         let mut cells = vec![call.name.to_string(), call.sweeps.to_string()];
-        let times = call_times(call);
-        let over = times.over();
+        let CallTimes { engine, check, over, reference } = call_times(call);
         let sweep = *sweep.get_or_insert(over);
-        let CallTimes { check, engine, reference } = times;
         let figures = [engine, check, over, over / sweep, reference, over / reference];
         cells.extend(figures.map(figure));
         line(&cells);
@@ -181,7 +178,7 @@ fn growth_of_calls() {
     let figures = sizes.map(|calls| {
         let times: Vec<CallTimes> = calls.into_iter().map(call_times).collect();
         let mut figures = vec![times[0].check];
-        figures.extend(times.iter().map(CallTimes::over));
+        figures.extend(times.iter().map(|times| times.over));
         figures
     });
     for (number, name) in names.into_iter().enumerate() {
