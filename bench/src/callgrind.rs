@@ -1,12 +1,13 @@
-//! Instructions of one pass, counted by valgrind's callgrind where it is there.
-//! This program is started again under it, on files that were made before, and
-//! only the pass itself is counted.
+//! Instructions, counted by valgrind's callgrind where it is there. This program
+//! is started again under it, and only one function of it is counted: a pass over
+//! files that were made before, or a call on tables that are made before.
 
 use std::fs;
 use std::io;
-use std::path::Path;
+use std::path::{Path, PathBuf};
 use std::process::{self, Command, Stdio};
 
+use crate::calls::Which;
 use crate::sides::{buffer, Side};
 
 pub fn is_there() -> bool {
@@ -14,28 +15,13 @@ pub fn is_there() -> bool {
     run.is_ok_and(|status| status.success())
 }
 
-/// The instructions of a pass of this side. The directory is for files that are
-/// removed again.
-pub fn instructions(side: Side, files: &[Vec<u8>], directory: &Path) -> io::Result<u64> {
-    let input = directory.join(format!("pogandir-bench-{}.files", process::id()));
-    let output = input.with_extension("callgrind");
+/// The instructions of a pass of this side over the files.
+pub fn of_pass(side: Side, files: &[Vec<u8>]) -> io::Result<u64> {
+    let input = scratch("files");
     fs::write(&input, packed(files))?;
-    let status = Command::new("valgrind")
-        .arg("--tool=callgrind")
-        .arg(format!("--toggle-collect={}", side.symbol()))
-        .arg(format!("--callgrind-out-file={}", output.display()))
-        .arg(std::env::current_exe()?)
-        .args(["pass", side.name()])
-        .arg(&input)
-        .stderr(Stdio::null())
-        .status()?;
-    if !status.success() {
-        return Err(io::Error::other("valgrind failed"));
-    }
-    let counted = fs::read_to_string(&output)?;
+    let counted = counted(side.symbol(), &["pass", side.name(), &input.to_string_lossy()]);
     fs::remove_file(&input)?;
-    fs::remove_file(&output)?;
-    total(&counted).ok_or(io::Error::other("callgrind wrote no total"))
+    counted
 }
 
 /// What the child does: one pass over the files.
@@ -43,6 +29,37 @@ pub fn pass(side: Side, input: &Path) -> io::Result<()> {
     let files = unpacked(&fs::read(input)?);
     side.pass(&files, &mut buffer());
     Ok(())
+}
+
+/// The instructions of one call: `make` with these two numbers makes it.
+pub fn of_call(number: usize, terms: usize, which: Which) -> io::Result<u64> {
+    let (number, terms) = (number.to_string(), terms.to_string());
+    counted(which.symbol(), &["call", &number, &terms, which.name()])
+}
+
+/// The instructions inside the function with this name, in a child that is given
+/// these words.
+fn counted(symbol: &str, words: &[&str]) -> io::Result<u64> {
+    let output = scratch("callgrind");
+    let status = Command::new("valgrind")
+        .arg("--tool=callgrind")
+        .arg(format!("--toggle-collect={symbol}"))
+        .arg(format!("--callgrind-out-file={}", output.display()))
+        .arg(std::env::current_exe()?)
+        .args(words)
+        .stderr(Stdio::null())
+        .status()?;
+    if !status.success() {
+        return Err(io::Error::other("valgrind failed"));
+    }
+    let counted = fs::read_to_string(&output)?;
+    fs::remove_file(&output)?;
+    total(&counted).ok_or(io::Error::other("callgrind wrote no total"))
+}
+
+/// A file that is removed again.
+fn scratch(kind: &str) -> PathBuf {
+    std::env::temp_dir().join(format!("pogandir-bench-{}.{kind}", process::id()))
 }
 
 /// Each file's length in four bytes, then its bytes.

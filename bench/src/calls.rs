@@ -3,6 +3,8 @@
 //! A caller may mark any term as on the wire, so here a chain of encrypted keys
 //! can be as long as there are keys, which no file can reach.
 
+use std::hint::black_box;
+
 use lent::{Answer, Entry, Tables, CACHE_PLACES};
 use reference::file::{read_header, read_record, Header, Record, StepRecord, TermRecord};
 use reference::realm::{self, Realm};
@@ -91,21 +93,58 @@ pub struct Call {
     pub sweeps: usize,
 }
 
-/// The calls on so many terms, 64 runs and 16 entries. The first makes one sweep,
-/// in which each term is known.
-pub fn calls(terms: usize) -> Vec<Call> {
-    let (best, nonce) = chain(terms, Order::Best);
-    let (worst, _) = chain(terms, Order::Worst);
-    vec![
-        call("step 10, every term on the wire", all_known(terms), query(0)),
-        call("step 10, a chain of keys in the best order", best, query(nonce)),
-        call("step 10, a chain of keys in the worst order", worst, query(nonce)),
-    ]
-}
+/// How many calls there are.
+pub const CALLS: usize = 4;
 
-fn call(name: &'static str, both: Both, record: Record) -> Call {
+/// A call on so many terms, 64 runs and 16 entries. The first makes one sweep, in
+/// which each term is known; the last is always on 512 terms.
+pub fn make(number: usize, terms: usize) -> Call {
+    let (name, both, record) = match number {
+        0 => ("step 10, every term on the wire", all_known(terms), query(0)),
+        1 => chained("step 10, a chain of keys in the best order", terms, Order::Best),
+        2 => chained("step 10, a chain of keys in the worst order", terms, Order::Worst),
+        _ => delivery(),
+    };
     let sweeps = sweeps(&both.realm);
     Call { name, both, record, sweeps }
+}
+
+fn chained(name: &'static str, terms: usize, order: Order) -> (&'static str, Both, Record) {
+    let (both, nonce) = chain(terms, order);
+    (name, both, query(nonce))
+}
+
+/// What of a call is counted or timed.
+#[derive(Clone, Copy, Debug, PartialEq, Eq)]
+pub enum Which {
+    Engine,
+    /// The check of the tables alone, which the reference has not got.
+    Check,
+    Reference,
+}
+
+pub const EACH: [Which; 3] = [Which::Engine, Which::Check, Which::Reference];
+
+impl Which {
+    pub fn name(self) -> &'static str {
+        match self {
+            Which::Engine => "engine",
+            Which::Check => "check",
+            Which::Reference => "reference",
+        }
+    }
+
+    pub fn named(name: &str) -> Option<Which> {
+        EACH.into_iter().find(|which| which.name() == name)
+    }
+
+    /// The function below by the name that callgrind knows it by.
+    pub fn symbol(self) -> &'static str {
+        match self {
+            Which::Engine | Which::Check => "call_of_the_engine",
+            Which::Reference => "call_of_the_reference",
+        }
+    }
 }
 
 impl Call {
@@ -114,6 +153,27 @@ impl Call {
     pub fn check(&self) -> Record {
         Record::Step(StepRecord { step: 7, time: self.both.realm.clock, ..STEP })
     }
+
+    pub fn take(&mut self, which: Which) {
+        let check = self.check();
+        match which {
+            Which::Engine => call_of_the_engine(&mut self.both.tables, &self.record),
+            Which::Check => call_of_the_engine(&mut self.both.tables, &check),
+            Which::Reference => call_of_the_reference(&mut self.both.realm, &self.record),
+        }
+    }
+}
+
+#[no_mangle]
+#[inline(never)]
+fn call_of_the_engine(tables: &mut Tables, record: &Record) {
+    black_box(tables.call(black_box(record)));
+}
+
+#[no_mangle]
+#[inline(never)]
+fn call_of_the_reference(realm: &mut Realm, record: &Record) {
+    let _ = black_box(realm.apply(black_box(record)));
 }
 
 pub fn query(message: u16) -> Record {
@@ -121,7 +181,7 @@ pub fn query(message: u16) -> Record {
 }
 
 /// The tables that the row of deliveries fills, and its first delivery.
-pub fn delivery() -> Call {
+fn delivery() -> (&'static str, Both, Record) {
     let (walk, records) = deliveries::filled();
     let (header, mut rest) = read_header(&walk.bytes).expect("the header is good");
     let mut both = Both::new(&header);
@@ -129,7 +189,7 @@ pub fn delivery() -> Call {
         both.put(record);
         rest = after;
     }
-    call("step 5 on the tables of the row of deliveries, 18", both, records[0])
+    ("step 5 on the tables of the row of deliveries, 18", both, records[0])
 }
 
 /// So many terms, all on the wire.

@@ -2,19 +2,17 @@
 //!
 //! `--times` leaves the instructions out. `pass SIDE FILE` is what callgrind runs.
 
-use std::cell::RefCell;
 use std::hint::black_box;
 use std::path::Path;
 use std::process::exit;
 use std::{env, io};
 
-use bench::calls::{calls, delivery, Both, Call};
+use bench::calls::{make, Which, CALLS, EACH};
 use bench::rows::{Row, ROWS};
 use bench::sides::{buffer, compare, Side};
 use bench::table::{figure, head, line, microseconds, milliseconds};
-use bench::timing::{least, least_of, over, turns_of};
+use bench::timing::least_of;
 use bench::{callgrind, walks};
-use reference::file::Record;
 
 fn main() -> io::Result<()> {
     let words: Vec<String> = env::args().skip(1).collect();
@@ -23,6 +21,12 @@ fn main() -> io::Result<()> {
         ["pass", side, input] => {
             let side = Side::named(side).ok_or(io::Error::other("engine or reference"))?;
             callgrind::pass(side, Path::new(input))
+        }
+        ["call", number, terms, which] => {
+            let which =
+                Which::named(which).ok_or(io::Error::other("engine, check or reference"))?;
+            make(number_of(number)?, number_of(terms)?).take(which);
+            Ok(())
         }
         [] => tables(callgrind::is_there()),
         ["--times"] => tables(false),
@@ -33,15 +37,20 @@ fn main() -> io::Result<()> {
     }
 }
 
+fn number_of(word: &str) -> io::Result<usize> {
+    word.parse().map_err(io::Error::other)
+}
+
 fn tables(count: bool) -> io::Result<()> {
     println!("Both sides list the same files:\n");
     compared(count)?;
     println!("\nThe engine with more records, or more files:\n");
     growth(count)?;
-    println!("\nOne public call, 512 terms, 64 runs, 16 entries, microseconds:\n");
-    public_calls();
-    println!("\nThe engine's public call with more terms, microseconds:\n");
-    growth_of_calls();
+    let unit = if count { "thousand instructions" } else { "us" };
+    println!("\nOne public call, 512 terms, 64 runs, 16 entries:\n");
+    public_calls(count, unit)?;
+    println!("\nThe engine's public call with more terms, {unit}:\n");
+    growth_of_calls(count)?;
     println!("\nBuffers, microseconds a file:\n");
     buffers();
     Ok(())
@@ -120,79 +129,77 @@ fn grown(figures: [f64; 4]) -> Vec<String> {
     cells
 }
 
-const CALLS: u32 = 100;
+const TIMES: u32 = 100;
 
-/// Microseconds of a call.
-struct CallTimes {
-    engine: f64,
-    /// The check of the tables alone, which the reference has not got.
-    check: f64,
-    /// The engine over the check.
-    over: f64,
-    reference: f64,
+/// Microseconds of a call by the engine, of its check, and by the reference.
+fn call_times(number: usize, terms: usize) -> [f64; 3] {
+    let [mut engine, mut check, mut reference] = EACH.map(|_| make(number, terms));
+    let times = least_of([
+        &mut || (0..TIMES).for_each(|_| engine.take(Which::Engine)),
+        &mut || (0..TIMES).for_each(|_| check.take(Which::Check)),
+        &mut || (0..TIMES).for_each(|_| reference.take(Which::Reference)),
+    ]);
+    times.map(|time| microseconds(time / TIMES))
 }
 
-fn call_times(call: Call) -> CallTimes {
-    let (check, record) = (call.check(), call.record);
-    let Both { tables, mut realm } = call.both;
-    let tables = RefCell::new(tables);
-    let calls = |record: &Record| {
-        let mut tables = tables.borrow_mut();
-        (0..CALLS).for_each(|_| drop_answer(tables.call(black_box(record))));
-    };
-    let turns = turns_of([&mut || calls(&check), &mut || calls(&record), &mut || {
-        (0..CALLS).for_each(|_| drop_answer(realm.apply(black_box(&record))))
-    }]);
-    let [check, engine, reference] = least(&turns).map(|time| microseconds(time / CALLS));
-    CallTimes { engine, check, over: over(&turns) * 1e6 / f64::from(CALLS), reference }
+/// The same in thousands of instructions.
+fn call_counts(number: usize, terms: usize) -> io::Result<[f64; 3]> {
+    let mut counts = [0.0; 3];
+    for (which, count) in EACH.into_iter().zip(&mut counts) {
+        *count = callgrind::of_call(number, terms, which)? as f64 / 1e3;
+    }
+    Ok(counts)
 }
 
-fn drop_answer<Answer>(answer: Answer) {
-    black_box(answer);
-}
-
-fn public_calls() {
-    let names =
-        ["Call", "Sweeps", "Engine", "The check", "Over it", "In sweeps", "Reference", "Ratio"];
-    head(&names);
-    let mut all = calls(512);
-    all.push(delivery());
+fn public_calls(count: bool, unit: &str) -> io::Result<()> {
+    let over = format!("Over the check, {unit}");
+    let names = ["Call", "Sweeps", "Engine, us", "The check, us", "Reference, us", &over];
+    head(&[&names[..], &["In sweeps", "Reference", "Ratio"]].concat());
     let mut sweep = None;
-    for call in all {
-        let mut cells = vec![call.name.to_string(), call.sweeps.to_string()];
-        let CallTimes { engine, check, over, reference } = call_times(call);
+    for number in 0..CALLS {
+        let call = make(number, 512);
+        let times = call_times(number, 512);
+        let costs = if count { call_counts(number, 512)? } else { times };
+        let [engine, check, reference] = costs;
+        let over = engine - check;
         let sweep = *sweep.get_or_insert(over);
-        let figures = [engine, check, over, over / sweep, reference, over / reference];
-        cells.extend(figures.map(figure));
+        let mut cells = vec![call.name.to_string(), call.sweeps.to_string()];
+        cells.extend(times.map(figure));
+        cells.extend([over, over / sweep, reference, over / reference].map(figure));
         line(&cells);
     }
+    Ok(())
 }
 
 /// The check, and what the calls take over it.
-fn growth_of_calls() {
+fn growth_of_calls(count: bool) -> io::Result<()> {
     head(&["Call", "64 terms", "128", "256", "512", "512 to 64"]);
-    let sizes = [64, 128, 256, 512].map(calls);
-    let mut names: Vec<String> =
-        sizes[0].iter().map(|call| format!("{}, over it", call.name)).collect();
-    names.insert(0, "the check of the tables".into());
-    let figures = sizes.map(|calls| {
-        let times: Vec<CallTimes> = calls.into_iter().map(call_times).collect();
-        let mut figures = vec![times[0].check];
-        figures.extend(times.iter().map(|times| times.over));
-        figures
-    });
-    for (number, name) in names.into_iter().enumerate() {
-        let mut cells = vec![name];
-        cells.extend(grown([0, 1, 2, 3].map(|size: usize| figures[size][number])));
-        line(&cells);
+    for number in 0..CALLS - 1 {
+        let (mut checks, mut overs) = ([0.0; 4], [0.0; 4]);
+        for (size, terms) in [64, 128, 256, 512].into_iter().enumerate() {
+            let costs = if count { call_counts(number, terms)? } else { call_times(number, terms) };
+            let [engine, check, _] = costs;
+            (checks[size], overs[size]) = (check, engine - check);
+        }
+        if number == 0 {
+            grows("the check of the tables".into(), checks);
+        }
+        grows(format!("{}, over it", make(number, 64).name), overs);
     }
+    Ok(())
+}
+
+fn grows(name: String, figures: [f64; 4]) {
+    let mut cells = vec![name];
+    cells.extend(grown(figures));
+    line(&cells);
 }
 
 /// What a file costs before its first record, and what clearing would add.
 fn buffers() {
     head(&["File", "Engine", "Engine, its buffer cleared before", "Reference"]);
     for (name, file) in [("empty", vec![]), ("a header alone", walks::header_alone())] {
-        let files = vec![file; CALLS as usize];
+        let files = vec![file; TIMES as usize];
         let (mut kept, mut cleared) = (buffer(), buffer());
         let times = least_of([
             &mut || Side::Engine.pass(&files, &mut kept),
@@ -205,12 +212,12 @@ fn buffers() {
             &mut || Side::Reference.pass(&files, &mut []),
         ]);
         let mut cells = vec![name.to_string()];
-        cells.extend(times.map(|time| figure(microseconds(time / CALLS))));
+        cells.extend(times.map(|time| figure(microseconds(time / TIMES))));
         line(&cells);
     }
 }
 
 /// Instructions of a pass, in millions.
 fn instructions(side: Side, files: &[Vec<u8>]) -> io::Result<f64> {
-    Ok(callgrind::instructions(side, files, &env::temp_dir())? as f64 / 1e6)
+    Ok(callgrind::of_pass(side, files)? as f64 / 1e6)
 }

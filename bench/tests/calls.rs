@@ -1,18 +1,20 @@
 //! The tables of the public calls, and what the calls do to them.
 
-use bench::calls::{calls, chain, delivery, sweeps, Order, LINKS};
+use bench::calls::{chain, make, query, sweeps, Order, CALLS, EACH, LINKS};
 use lent::Answer;
 
 #[test]
 fn calls_leave_full_tables_as_they_are() {
     for terms in [64, 128, 256, 512] {
-        for mut call in calls(terms) {
+        for number in 0..CALLS - 1 {
+            let mut call = make(number, terms);
             let realm = call.both.tables.realm;
             assert_eq!((realm.terms, realm.runs, realm.entries), (terms, 64, 16));
             let before = call.both.tables.clone();
             let answer = call.both.put(call.record);
             assert_eq!(answer, Answer::Ok, "{}", call.name);
             assert_eq!(call.both.put(call.check()), Answer::Ok, "{}", call.name);
+            EACH.into_iter().for_each(|which| call.take(which));
             assert_eq!(call.both.tables, before, "{}", call.name);
         }
     }
@@ -20,7 +22,7 @@ fn calls_leave_full_tables_as_they_are() {
 
 #[test]
 fn sweeps_are_counted() {
-    let of = |terms| calls(terms).iter().map(|call| call.sweeps).collect::<Vec<_>>();
+    let of = |terms| [0, 1, 2].map(|number| make(number, terms).sweeps);
     assert_eq!(of(512), [1, 2, LINKS + 2]);
     assert_eq!(of(64), [1, 2, 32]);
 }
@@ -40,13 +42,13 @@ fn a_chain_hangs_on_its_first_link() {
         assert!(both.realm.wire.remove(&message));
         both.tables.wire[first / 64] ^= 1 << (first % 64);
         assert_eq!(sweeps(&both.realm), 1);
-        assert_eq!(both.put(bench::calls::query(nonce)), Answer::Refused(15));
+        assert_eq!(both.put(query(nonce)), Answer::Refused(15));
     }
 }
 
 #[test]
 fn the_delivery_is_refused_on_full_tables() {
-    let mut call = delivery();
+    let mut call = make(3, 512);
     let realm = call.both.tables.realm;
     assert_eq!((realm.terms, realm.runs, realm.entries), (512, 64, 16));
     assert_eq!(call.sweeps, 3);
