@@ -34,7 +34,7 @@ fn realm(file: &[u8]) -> Realm {
     let (header, mut rest) = read_header(file).unwrap();
     let mut realm = Realm::new(header);
     while let Some(read) = read_record(rest) {
-        let (record, after) = read.unwrap();
+        let Ok((record, after)) = read else { break };
         let _ = realm.apply(&record);
         rest = after;
     }
@@ -154,6 +154,19 @@ fn keys_are_in_the_worst_order() {
     }
     assert_eq!(opened, 20 + 16, "authenticators and confirmations");
     assert_eq!(sweeps(&walk.realm), 3);
+}
+
+/// `deliveries.rs` says why.
+#[test]
+fn no_file_takes_more_sweeps() {
+    let mut most = 0;
+    for number in 0..2_000 {
+        let file = generator::walk_file(1, number);
+        if read_header(&file).is_ok() {
+            most = most.max(sweeps(&realm(&file)));
+        }
+    }
+    assert_eq!(most, 3);
 }
 
 #[test]
