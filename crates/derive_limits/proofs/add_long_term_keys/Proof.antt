@@ -1,4 +1,4 @@
--- `add_long_term_keys` is safe and ends: the table keeps its length, and the index goes up to 15. Assumes nothing.
+-- `add_long_term_keys` is safe and ends: the table keeps its length, and the index goes up to 16. Assumes nothing.
 use borrow.Author.Needs.{needs}
 use Prim.Native.Nat.{_-_}
 use mathlib.Core.Path.{_≡_}
@@ -10,7 +10,7 @@ abbrev Inv-loop : tie.InvT-loop
 Inv-loop terms₀ start count₀ p₀ terms count p = length terms ≡ length terms₀
 
 abbrev μ-loop : tie.MeasureT-loop
-μ-loop terms₀ start count₀ p₀ terms count p = 15 - p
+μ-loop terms₀ start count₀ p₀ terms count p = 16 - p
 
 loop-holds : tie.Need-loop-holds Inv-loop μ-loop
 loop-holds c = search needs
