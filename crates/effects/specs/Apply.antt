@@ -9,8 +9,6 @@ use Rattle.exchange.specs.declared.call.Answer.the-variants.{OkRun, Ok, Refused
 use Rattle.exchange.specs.declared.event.Event.{Event}
 use Rattle.exchange.specs.declared.event.Event.the-variants.{Initiate, Respond, Issue, Authenticate, Accept, Finish, Tick, Purge, Leak, Nothing}
 use Rattle.exchange.specs.Log.{sends, clockAfter}
-use Rattle.replay.specs.Cache as replay
-use Rattle.replay.specs.declared.entry.Entry.{Entry}
 use Rattle.realm.specs.declared.header.Realm.{Realm}
 use Rattle.realm.specs.Tables.{Tables, tables, Together}
 use Rattle.effects.specs.declared.apply.After.{After}
@@ -72,22 +70,13 @@ realmAfter h e terms entries =
       entries = entries;
     }
 
--- the count and the places that the cache comes to
-abbrev pub entryCount : replay.Outcome → ℕ
-entryCount (replay.refused number list) = 0
-entryCount (replay.accepted count list) = count
-
-abbrev pub entryPlaces : replay.Outcome → List Entry
-entryPlaces (replay.refused number list) = list
-entryPlaces (replay.accepted count list) = list
-
 abbrev pub written : Tables → Event → Sending → Outcome
 written t e (refused number ts ws) = refuse t number
 written t e (sent count ts ws) =
     let c = cacheOf (t .realm) (t .cache) e in
     record {
       answer = answerOf e;
-      tables = tables (realmAfter (t .realm) e count (entryCount c)) ts (changed (changeOf e) (t .runs)) ws (entryPlaces c);
+      tables = tables (realmAfter (t .realm) e count (c .count)) ts (changed (changeOf e) (t .runs)) ws (c .places);
     }
 
 unfoldable pub applied : Tables → Event → Outcome

@@ -7,32 +7,15 @@ use replay::entry::Entry;
 use replay::entry::Purge;
 ghost use mathlib.Core.Path.{_≡_};
 ghost use Prim.Native.Nat.{_≤_};
-ghost use Rattle.replay.specs.Cache.{accepted};
 ghost use Rattle.effects.specs.Cache.{cacheOf, EntryRoom};
 
 // The cache after an event: step 5 remembers an entry behind the others, step 8 forgets.
 pub fn cache_after(h: Realm, cache: [Entry; 16], event: Event) -> Swept
     requires { ⌜ (h .entries ≤ 16) × EntryRoom (h .entries) event ⌝ }
-    ensures { λ r. ⌜ accepted (r .count) (r .places) ≡ cacheOf h cache event ⌝ }
+    ensures { λ r. ⌜ r ≡ cacheOf h cache event ⌝ }
 {
     let count = h.entries;
     match event {
-        Event::Initiate { .. } => Swept {
-            places: cache,
-            count,
-        },
-        Event::Respond { .. } => Swept {
-            places: cache,
-            count,
-        },
-        Event::Issue { .. } => Swept {
-            places: cache,
-            count,
-        },
-        Event::Authenticate { .. } => Swept {
-            places: cache,
-            count,
-        },
         Event::Accept { b, k, ta, .. } => {
             let mut next = cache;
             next[count] = Entry {
@@ -45,14 +28,6 @@ pub fn cache_after(h: Realm, cache: [Entry; 16], event: Event) -> Swept
                 count: count + 1,
             }
         }
-        Event::Finish { .. } => Swept {
-            places: cache,
-            count,
-        },
-        Event::Tick { .. } => Swept {
-            places: cache,
-            count,
-        },
         Event::Purge { b } => sweep(
             cache,
             count,
@@ -62,11 +37,7 @@ pub fn cache_after(h: Realm, cache: [Entry; 16], event: Event) -> Swept
                 la: h.la,
             },
         ),
-        Event::Leak { .. } => Swept {
-            places: cache,
-            count,
-        },
-        Event::Nothing => Swept {
+        _ => Swept {
             places: cache,
             count,
         },

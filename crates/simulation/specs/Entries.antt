@@ -23,7 +23,6 @@ use Rattle.realm.specs.declared.header.Realm.{Realm}
 use Rattle.realm.specs.Opening.{header}
 use Rattle.realm.specs.Tables.{Tables, EntryFits, empty, Together}
 use Rattle.effects.specs.Cache.{cacheOf}
-use Rattle.effects.specs.Apply.{entryCount, entryPlaces}
 use Rattle.simulation.specs.Values.{logged}
 use Rattle.simulation.specs.Cached.{logged-kept}
 use Rattle.simulation.specs.Taken.Fits.{EventFits}
@@ -85,7 +84,7 @@ module _ {t : Tables} (w : Together t) where
   pub cache-holds : CacheHolds (t .realm .n) (t .cache) (t .realm .entries)
   cache-holds = record { places = w .places; most = w .entries-most; each = w .entries-fit }
 
-  pub entries-kept : (e : Event) → EventFits t e → let c = cacheOf (t .realm) (t .cache) e in CacheHolds (t .realm .n) (entryPlaces c) (entryCount c)
+  pub entries-kept : (e : Event) → EventFits t e → let c = cacheOf (t .realm) (t .cache) e in CacheHolds (t .realm .n) (c .places) (c .count)
   entries-kept (Initiate r a b) f = cache-holds
   entries-kept (Respond r a b) f = cache-holds
   entries-kept (Issue r a b ts n) f = cache-holds
@@ -101,7 +100,7 @@ module _ {t : Tables} (w : Together t) where
 
 pub entries-follow : (h : Realm) (list : List Entry) {R : exchange.Realm} → header h ≡ R → {now : ℕ} → h .clock ≡ now
     → {old : List log.Entry} → map logged (entries list (h .entries)) ≡ old → (e : Event)
-    → let c = cacheOf h list e in map logged (entries (entryPlaces c) (entryCount c)) ≡ cacheAfter R now e old
+    → let c = cacheOf h list e in map logged (entries (c .places) (c .count)) ≡ cacheAfter R now e old
 entries-follow h list is clock same (Initiate r a b) = same
 entries-follow h list is clock same (Respond r a b) = same
 entries-follow h list is clock same (Issue r a b ts n) = same

@@ -12,8 +12,7 @@ use Rattle.exchange.specs.declared.call.Answer.{Answer}
 use Rattle.exchange.specs.declared.call.Answer.the-variants as answers
 use Rattle.exchange.specs.declared.event.Event.{Event}
 use Rattle.exchange.specs.Log.{sends, clockAfter}
-use Rattle.replay.specs.Cache as replay
-use Rattle.replay.specs.declared.entry.Entry.{Entry}
+use Rattle.replay.specs.declared.cache.Swept.{Swept}
 use Rattle.realm.specs.Tables.{Tables, tables}
 use Rattle.effects.specs.Apply.{answerOf, runCount, written, applied, Ready}
 use Rattle.effects.specs.Cache.{cacheOf}
@@ -42,8 +41,8 @@ module _ (t : Tables) (e : Event) where
         ap₂ (λ (x y : List ℕ). record { answer = answers.Refused number; tables = tables (t .realm) x (t .runs) y (t .cache) }) (same .terms) (same .wire) ∙ ap (written t e) out
 
     -- they fit, and the rest is written
-    module _ {count : ℕ} (h : s ≡ Count count) {rs : List ℕ} (rows : rs ≡ changed (changeOf e) (t .runs)) {entries : ℕ} {cache : List Entry}
-        (kept : replay.accepted entries cache ≡ cacheOf (t .realm) (t .cache) e) {clock : ℕ} (ticked : clock ≡ clockAfter e (t .realm .clock)) {runs : ℕ}
+    module _ {count : ℕ} (h : s ≡ Count count) {rs : List ℕ} (rows : rs ≡ changed (changeOf e) (t .runs)) {swept : Swept}
+        (kept : swept ≡ cacheOf (t .realm) (t .cache) e) {clock : ℕ} (ticked : clock ≡ clockAfter e (t .realm .clock)) {runs : ℕ}
         (opened : runs ≡ runCount e (t .realm .runs)) {answer : Answer} (told : answer ≡ answerOf e) where
       pub sent-applied : record {
         answer = answer;
@@ -55,8 +54,8 @@ module _ (t : Tables) (e : Event) where
           clock = clock;
           terms = count;
           runs = runs;
-          entries = entries;
-        }) ts rs ws cache;
+          entries = swept .count;
+        }) ts rs ws (swept .places);
       } ≡ applied t e
       unfolding applied
       sent-applied =

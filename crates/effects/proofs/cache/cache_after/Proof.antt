@@ -1,25 +1,39 @@
 -- `effects::cache::cache_after` meets its contract: each arm by the event that it is. Assumes nothing.
-use mathlib.Core.Path.{_≡_}
+use mathlib.Core.List.{List, [], _∷_}
+use mathlib.Core.Path.{_≡_, refl}
+use Prim.Native.Nat.{ℕ}
+use denote.Enum.Declared.{tagOf}
+use types.Run.{OneOf, miss}
 use borrow.Author.Needs.{needs}
 use lib.ListN.{length}
-use Rattle.effects.specs.Laws.Cache.{entry-room, entry-stored}
+use Rattle.exchange.proofs.event.Event.{the-type}
+use Rattle.exchange.specs.declared.event.Event.{Event}
+use Rattle.exchange.specs.declared.event.Event.the-variants.{Initiate, Respond, Issue, Authenticate, Accept, Finish, Tick, Purge, Leak, Nothing}
+use Rattle.replay.specs.declared.entry.Entry.{Entry}
+use Rattle.realm.specs.declared.header.Realm.{Realm}
+use Rattle.effects.specs.Cache.{same, cacheOf}
+use Rattle.effects.specs.Laws.Cache.{entry-room, entry-stored, swept-is}
 use Rattle.effects.proofs.cache.cache_after.Statement.{statement}
 use Rattle.effects.proofs.cache.cache_after.Tie as tie
 
+-- the events that leave the cache
+abbrev others : List ℕ
+others = 0 ∷ 1 ∷ 2 ∷ 3 ∷ 5 ∷ 6 ∷ 8 ∷ 9 ∷ []
+
+left : (h : Realm) (cache : List Entry) (e : Event) → OneOf others (tagOf the-type e) → same h cache ≡ cacheOf h cache e
+left h cache (Initiate r a b) among = refl
+left h cache (Respond r a b) among = refl
+left h cache (Issue r a b ts n) among = refl
+left h cache (Authenticate r a b k ts ta) among = refl
+left h cache (Accept r a b k ts ta) among = absurd (miss others 4 tt among)
+left h cache (Finish r a b k ts ta) among = refl
+left h cache (Tick t) among = refl
+left h cache (Purge b) among = absurd (miss others 7 tt among)
+left h cache (Leak r) among = refl
+left h cache Nothing among = refl
+
 places : (c : tie.After-known-told) → length (c .before .before .before .args .cache) ≡ 16
 places c = search needs
-
-enum-told : tie.Need-enum-told
-enum-told c = search needs
-
-enum-told-2 : tie.Need-enum-told-2
-enum-told-2 c = search needs
-
-enum-told-3 : tie.Need-enum-told-3
-enum-told-3 c = search needs
-
-enum-told-4 : tie.Need-enum-told-4
-enum-told-4 c = search needs
 
 enum-known-event : tie.Need-enum-known-event
 enum-known-event c = search needs
@@ -39,12 +53,6 @@ array-set-from-next c = entry-room (c .before .event .given .1) (c .before .befo
 add-t14 : tie.Need-add-t14
 add-t14 c = search needs
 
-enum-told-5 : tie.Need-enum-told-5
-enum-told-5 c = search needs
-
-enum-told-6 : tie.Need-enum-told-6
-enum-told-6 c = search needs
-
 enum-known-event-2 : tie.Need-enum-known-event-2
 enum-known-event-2 c = search needs
 
@@ -54,70 +62,28 @@ cast-t18 c = search needs
 sweep-requires : tie.Need-sweep-requires
 sweep-requires c κs = search needs
 
-enum-told-7 : tie.Need-enum-told-7
-enum-told-7 c = search needs
-
-enum-told-8 : tie.Need-enum-told-8
-enum-told-8 c = search needs
-
 returns : tie.Need-returns
-returns c = rw (c .enum-told .given .1)
+returns c = let s = c .before .before .before in entry-stored (c .before .event .given .1) (s .args .h) (s .args .cache) (places c) (s .pre .1)
 
 returns-2 : tie.Need-returns-2
-returns-2 c = rw (c .enum-told2 .given .1)
+returns-2 c = rw (c .before .before .event2 .given .1) (swept-is (c .sweep .result) (c .sweep .ensures))
 
 returns-3 : tie.Need-returns-3
-returns-3 c = rw (c .enum-told3 .given .1)
-
-returns-4 : tie.Need-returns-4
-returns-4 c = rw (c .enum-told4 .given .1)
-
-returns-5 : tie.Need-returns-5
-returns-5 c = let s = c .before .before .before in entry-stored (c .before .event .given .1) (s .args .h) (s .args .cache) (places c) (s .pre .1)
-
-returns-6 : tie.Need-returns-6
-returns-6 c = rw (c .enum-told5 .given .1)
-
-returns-7 : tie.Need-returns-7
-returns-7 c = rw (c .enum-told6 .given .1)
-
-returns-8 : tie.Need-returns-8
-returns-8 c = rw (c .before .before .event2 .given .1) (c .sweep .ensures)
-
-returns-9 : tie.Need-returns-9
-returns-9 c = rw (c .enum-told7 .given .1)
-
-returns-10 : tie.Need-returns-10
-returns-10 c = rw (c .enum-told8 .given .1)
+returns-3 c = left (c .before .args .h) (c .before .args .cache) (c .before .args .event) (c .match .keys3)
 
 pub cache-after-spec : {M : Type 1} → statement M
 cache-after-spec =
     tie.close
     (tie.spec
-    enum-told
-    enum-told-2
-    enum-told-3
-    enum-told-4
     enum-known-event
     cast-t11
     cast-t12
     mul-next
     array-set-from-next
     add-t14
-    enum-told-5
-    enum-told-6
     enum-known-event-2
     cast-t18
     sweep-requires
-    enum-told-7
-    enum-told-8
     returns
     returns-2
-    returns-3
-    returns-4
-    returns-5
-    returns-6
-    returns-7
-    returns-8
-    returns-9
-    returns-10)
+    returns-3)
