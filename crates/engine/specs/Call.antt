@@ -15,8 +15,8 @@ use Rattle.realm.specs.declared.header.Realm.{Realm}
 use Rattle.realm.specs.declared.input.Step.{Step}
 use Rattle.realm.specs.Check.{together}
 use Rattle.realm.specs.Tables.{Tables, tables}
-use Rattle.steps.specs.declared.take.Verdict.{Verdict}
-use Rattle.steps.specs.declared.take.Verdict.the-variants.{Takes, Refused}
+use Rattle.receiving.specs.declared.Verdict.{Verdict}
+use Rattle.receiving.specs.declared.Verdict.the-variants.{Takes, Refused}
 use Rattle.steps.specs.Decide.{decided}
 use Rattle.effects.specs.Apply.{Outcome, refuse, applied}
 use Rattle.engine.specs.declared.call.Termed.{Termed}

@@ -40,9 +40,9 @@ use Rattle.realm.specs.Check.{wireHolds, entriesHold, together}
 use Rattle.realm.specs.Input.{usesTable, inRange, inputRefusal}
 use Rattle.realm.specs.Opening.{headerFits, newRealm}
 use Rattle.realm.specs.Tables.{Tables, tables, empty}
-use Rattle.steps.specs.Conditions.{admission}
-use Rattle.steps.specs.Decide.{ticks, queries, stepOf, decided}
-use Rattle.steps.specs.Take.{opensRun, issues, authenticates, takes, finishes}
+use Rattle.conditions.specs.Conditions.{admission}
+use Rattle.receiving.specs.Take.{issues, authenticates, takes, finishes}
+use Rattle.steps.specs.Decide.{opensRun, ticks, queries, stepOf, decided}
 use Rattle.effects.specs.Apply.{applied}
 use Rattle.engine.specs.Call.{stepped, called}
 

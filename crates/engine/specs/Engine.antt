@@ -30,8 +30,8 @@ use Rattle.exchange.specs.Theorems.{rules-read}
 use Rattle.realm.specs.declared.input.Step.{Step}
 use Rattle.realm.specs.Opening.{header}
 use Rattle.realm.specs.Tables.{Tables, Together}
-use Rattle.steps.specs.declared.take.Verdict.{Verdict}
-use Rattle.steps.specs.declared.take.Verdict.the-variants as verdicts
+use Rattle.receiving.specs.declared.Verdict.{Verdict}
+use Rattle.receiving.specs.declared.Verdict.the-variants as verdicts
 use Rattle.steps.specs.Decide.{decided}
 use Rattle.simulation.specs.Taken.{verdict-taken, verdict-fits}
 use Rattle.simulation.specs.Values.{logged, valuesOf, callOf}

@@ -14,8 +14,8 @@ use Rattle.exchange.specs.Engine.{Sized}
 use Rattle.exchange.specs.Log.{sends}
 use Rattle.realm.specs.declared.input.Step.{Step}
 use Rattle.realm.specs.Tables.{Tables, Together}
-use Rattle.steps.specs.declared.take.Verdict.{Verdict}
-use Rattle.steps.specs.declared.take.Verdict.the-variants as verdicts
+use Rattle.receiving.specs.declared.Verdict.{Verdict}
+use Rattle.receiving.specs.declared.Verdict.the-variants as verdicts
 use Rattle.steps.specs.Decide.{decided}
 use Rattle.simulation.specs.Taken.{verdict-fits}
 use Rattle.simulation.specs.Taken.Took.{Took, took1, took2, took3, took4, took5, took6, took7, took8, took9, took10}

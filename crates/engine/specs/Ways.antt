@@ -17,7 +17,7 @@ use Rattle.exchange.specs.declared.event.Event.{Event}
 use Rattle.realm.specs.declared.input.Step.{Step}
 use Rattle.realm.specs.Check.{together}
 use Rattle.realm.specs.Tables.{Tables, tables}
-use Rattle.steps.specs.declared.take.Verdict.the-variants.{Takes, Refused}
+use Rattle.receiving.specs.declared.Verdict.the-variants.{Takes, Refused}
 use Rattle.steps.specs.Decide.{decided}
 use Rattle.effects.specs.Apply.{refuse, applied}
 use Rattle.engine.specs.Call.{Adding, adding, withTerm, byVerdict, stepped, called, checked}

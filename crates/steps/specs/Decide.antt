@@ -8,6 +8,7 @@ use mathlib.Core.Logic.{_⊎_}
 use mathlib.Core.List.{List, [], _∷_}
 use lib.Dec.{leb, eqb}
 use lib.ListN.{getD}
+use Rattle.exchange.specs.declared.event.Event.{Event}
 use Rattle.exchange.specs.declared.event.Event.the-variants.{Initiate, Respond, Tick, Purge, Leak, Nothing}
 use Rattle.exchange.specs.declared.run.Row.{Row}
 use Rattle.exchange.specs.Needs.{needOf, meets}
@@ -15,11 +16,15 @@ use Rattle.runs.specs.Runs.{runAt}
 use Rattle.realm.specs.declared.header.Realm.{Realm}
 use Rattle.realm.specs.declared.input.Step.{Step}
 use Rattle.realm.specs.Input.{inputRefusal}
-use Rattle.steps.specs.declared.take.Verdict.{Verdict}
-use Rattle.steps.specs.declared.take.Verdict.the-variants.{Takes, Refused}
-use Rattle.steps.specs.Conditions.{derivableAt}
-use Rattle.steps.specs.Take.{need, opensRun, issues, authenticates, takes, finishes}
 use Rattle.realm.specs.Tables.{Tables}
+use Rattle.conditions.specs.Conditions.{derivableAt}
+use Rattle.receiving.specs.declared.Verdict.{Verdict}
+use Rattle.receiving.specs.declared.Verdict.the-variants.{Takes, Refused}
+use Rattle.receiving.specs.Take.{need, roomForRun, issues, authenticates, takes, finishes}
+
+-- "1 | opens an initiator run r", "2 | opens a responder run of b for a"
+unfoldable pub opensRun : Realm → Event → Verdict
+opensRun h e = need (roomForRun h) 13 (Takes e)
 
 -- "7 | clock becomes t"; 12: "t is below the clock"
 unfoldable pub ticks : Realm → ℕ → Verdict

@@ -1,24 +1,18 @@
 -- What a step comes to, before anything is written: a verdict, which is the event that the step is or the number of its refusal.
--- The contract of `decide` gives it whole. Reading order of the definitions: Take (the steps that open a run or take a message),
--- Conditions (what they share), Decide (all steps by number). Below are the order of refusals and what each condition says.
+-- The contract of `decide` gives it whole: `Decide` has all steps by number, over those that take a message (the crate receiving).
+-- Below is the order of refusals.
 -- Assumes nothing.
 use Prim.Native.Nat.{ℕ}
-use mathlib.Core.Bool.{true, false}
-use mathlib.Core.List.{List}
-use mathlib.Core.Logic.{_↔_, _≢_}
+use mathlib.Core.Bool.{false}
+use mathlib.Core.Logic.{_≢_}
 use mathlib.Core.Path.{_≡_, refl, sym, subst}
 use Rattle.exchange.specs.Needs.{needOf, meets}
-use Rattle.replay.specs.Cache.{present, entries}
-use Rattle.replay.specs.declared.entry.Entry.{Entry}
 use Rattle.runs.specs.Runs.{runAt}
-use Rattle.realm.specs.declared.header.Realm.{Realm}
 use Rattle.realm.specs.declared.input.Step.{Step}
 use Rattle.realm.specs.Input.{inputRefusal}
 use Rattle.realm.specs.Tables.{Tables}
-use Rattle.steps.specs.declared.take.Verdict.the-variants.{Refused}
-use Rattle.steps.specs.Conditions.{ticketLives, authenticatorLives, admission}
+use Rattle.receiving.specs.declared.Verdict.the-variants.{Refused}
 use Rattle.steps.specs.Decide.{stepOf, decided, NamesRun}
-use Rattle.steps.specs.Laws.Admit.{admitted, admission-passed}
 use Rattle.steps.specs.Laws.Decide.{run-barred, fields-barred, fields-pass}
 use Rattle.steps.specs.Laws.Refusals.{StepRefusal, Told, told}
 
@@ -39,12 +33,3 @@ then-the-run t s names unfit = sym (run-barred t s (runAt (t .runs) (s .run)) re
 -- no step has another refusal than 4 to 6 and 11 to 19
 pub step-refusals : (t : Tables) (s : Step) {k : ℕ} → decided t s ≡ Refused k → StepRefusal k
 step-refusals t s e = subst Told e (told t s)
-
--- ---- conditions
-
--- 16, 17, 18 and 19 let pass exactly: a ticket and an authenticator that live, which no entry has, and a place for their entry
-pub admission-exact : (h : Realm) (cache : List Entry) (ts : ℕ) (e : Entry)
-    → (admission h cache ts e ≡ 0)
-    ↔ ((ticketLives h ts ≡ true) × (authenticatorLives h (e .ta) ≡ true) × (present (entries cache (h .entries)) e ≡ false) × (h .entries ≢ 16))
-admission-exact h cache ts e =
-    (admission-passed h cache ts e, λ p. sym (admitted h cache ts e (p .0) (p .1) (p .2) (p .3)))

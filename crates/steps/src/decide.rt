@@ -1,25 +1,38 @@
 // A whole step: its fields, the run that it names, its message, and what it does.
-use super::conditions::REFUSE_CLOCK;
-use super::conditions::REFUSE_STAGE;
-use super::conditions::REFUSE_UNDERIVABLE;
-use super::conditions::can_deliver;
-use super::take::Verdict;
-use super::take::accept;
-use super::take::authenticate;
-use super::take::finish;
-use super::take::issue;
-use super::take::open_run;
+use conditions::can_deliver;
 use exchange::event::Event;
 use exchange::need::fits;
 use realm::header::Realm;
 use realm::input::Step;
 use realm::input::input_refusal;
+use receiving::REFUSE_RUNS_FULL;
+use receiving::REFUSE_UNDERIVABLE;
+use receiving::Verdict;
+use receiving::accept;
+use receiving::authenticate;
+use receiving::finish;
+use receiving::issue;
 use replay::entry::Entry;
+use runs::row::MAX_RUNS;
 use runs::row::run_at;
 ghost use mathlib.Core.Path.{_≡_};
-ghost use Rattle.steps.specs.Conditions.{Delivers};
-ghost use Rattle.steps.specs.Decide.{ticks, queries, stepOf, decided, Named};
+ghost use Rattle.conditions.specs.Conditions.{Delivers};
+ghost use Rattle.steps.specs.Decide.{opensRun, ticks, queries, stepOf, decided, Named};
 ghost use Rattle.realm.specs.Tables.{tables, Together};
+
+pub const REFUSE_STAGE: u8 = 11;
+
+pub const REFUSE_CLOCK: u8 = 12;
+
+// Steps 1 and 2: the event, if there is room for a run.
+fn open_run(h: Realm, event: Event) -> Verdict
+    ensures { λ r. ⌜ r ≡ opensRun h event ⌝ }
+{
+    if MAX_RUNS <= h.runs {
+        return Verdict::Refused(REFUSE_RUNS_FULL);
+    }
+    Verdict::Takes(event)
+}
 
 // Step 7.
 fn tick(h: Realm, t: u32) -> Verdict

@@ -1,4 +1,2 @@
 // What a step does, or the refusal that turns it away. Nothing is written here.
-pub mod conditions;
 pub mod decide;
-pub mod take;

@@ -36,12 +36,12 @@ use Rattle.exchange.specs.Needs.{needTable, isAt}
 use Rattle.exchange.specs.Rules.{Apart}
 use Rattle.realm.specs.declared.input.Step.{Step}
 use Rattle.realm.specs.Input.{usesTable, usesOf, inputRefusal, passed}
-use Rattle.steps.specs.declared.take.Verdict.{Verdict}
-use Rattle.steps.specs.declared.take.Verdict.the-variants.{Takes, Refused}
-use Rattle.steps.specs.Conditions.{derivableAt, ticketLives, admission}
-use Rattle.steps.specs.Decide.{ticks, queries, stepOf, decided}
-use Rattle.steps.specs.Promises.{admission-exact}
-use Rattle.steps.specs.Take.{need, opensRun, onRequest, issues, onReply, authenticates, onDelivery, takes, onConfirmation, finishes}
+use Rattle.conditions.specs.Conditions.{derivableAt, ticketLives, admission}
+use Rattle.conditions.specs.Promises.{admission-exact}
+use Rattle.receiving.specs.declared.Verdict.{Verdict}
+use Rattle.receiving.specs.declared.Verdict.the-variants.{Takes, Refused}
+use Rattle.receiving.specs.Take.{need, onRequest, issues, onReply, authenticates, onDelivery, takes, onConfirmation, finishes}
+use Rattle.steps.specs.Decide.{opensRun, ticks, queries, stepOf, decided}
 use Rattle.realm.specs.Tables.{Tables, Together}
 use Rattle.simulation.specs.Values.{callOf}
 use Rattle.simulation.specs.Taken.Fields.{cleared, call-cleared, Range, in-range}

@@ -8,8 +8,9 @@ use mathlib.Core.List.{List}
 use mathlib.Core.Logic.{inl, inr}
 use mathlib.Core.Path.{_≡_, refl, sym, subst}
 use lib.Dec.{ltb}
-use borrow.Author.Tests.{le-leb, lt-leb, ltb-true, eq-eqb, ne-eqb}
+use borrow.Author.Tests.{lt-ltb, le-ltb, le-leb, lt-leb, ltb-true, eq-eqb, ne-eqb}
 use Rattle.terms.specs.Choice.{no-true}
+use Rattle.exchange.specs.declared.event.Event.{Event}
 use Rattle.exchange.specs.declared.event.Event.the-variants.{Initiate, Respond, Tick, Purge, Leak, Nothing}
 use Rattle.exchange.specs.declared.run.Row.{Row}
 use Rattle.exchange.specs.Needs.{needOf, meets}
@@ -19,11 +20,22 @@ use Rattle.realm.specs.declared.header.Realm.{Realm}
 use Rattle.realm.specs.declared.input.Step.{Step}
 use Rattle.realm.specs.declared.input.Uses.{Uses}
 use Rattle.realm.specs.Input.{usesTable, usesOf, inRange, inputRefusal, passed}
-use Rattle.steps.specs.declared.take.Verdict.the-variants.{Takes, Refused}
-use Rattle.steps.specs.Conditions.{Delivers, derivableAt}
-use Rattle.steps.specs.Decide.{ticks, queries, stepOf, decided, NamesRun, Named}
 use Rattle.realm.specs.Tables.{Tables, Together}
-use Rattle.steps.specs.Take.{opensRun, issues, authenticates, takes, finishes}
+use Rattle.conditions.specs.Conditions.{Delivers, derivableAt}
+use Rattle.receiving.specs.declared.Verdict.the-variants.{Takes, Refused}
+use Rattle.receiving.specs.Take.{issues, authenticates, takes, finishes}
+use Rattle.steps.specs.Decide.{opensRun, ticks, queries, stepOf, decided, NamesRun, Named}
+
+-- ---- steps 1 and 2
+
+module _ (h : Realm) (e : Event) where
+  pub no-room : 64 ≤ h .runs → Refused 13 ≡ opensRun h e
+  unfolding opensRun
+  no-room p = rw (le-ltb (h .runs) 64 p)
+
+  pub run-opened : h .runs < 64 → Takes e ≡ opensRun h e
+  unfolding opensRun
+  run-opened p = rw (lt-ltb (h .runs) 64 p)
 
 -- ---- step 7
 

@@ -1,0 +1,72 @@
+-- `conditions::admit` meets its contract: by the law for each way out. Assumes nothing.
+use mathlib.Core.Bool.{true, false}
+use mathlib.Core.Path.{_≡_, sym, _∙_}
+use borrow.Author.Tests.{not-true, not-false}
+use Rattle.replay.specs.Cache.{present, entries}
+use Rattle.conditions.specs.Conditions.{ticketLives, authenticatorLives}
+use Rattle.conditions.specs.Laws.{ticket-over, authenticator-over, replayed, cache-full, admitted}
+use borrow.Author.Needs.{needs}
+use Rattle.conditions.proofs.admit.Statement.{statement}
+use Rattle.conditions.proofs.admit.Tie as tie
+
+-- ---- what is known on the way
+
+ticket : (c : tie.Else1) → let a = c .before .before .args in ticketLives (a .h) (a .ts) ≡ true
+ticket c = sym (c .before .ticket-lives .ensures) ∙ not-false _ (c .if1 .left)
+
+authenticator : (c : tie.Else2) → let a = c .before .before .before .before .args in authenticatorLives (a .h) (a .e .ta) ≡ true
+authenticator c = sym (c .before .authenticator-lives .ensures) ∙ not-false _ (c .if2 .left)
+
+new : (c : tie.Else3) → let a = c .before .before .before .before .before .before .args in present (entries (a .cache) (a .h .entries)) (a .e) ≡ false
+new c = sym (c .before .find .ensures) ∙ c .if3 .left
+
+-- ---- the needs
+
+ticket-lives-requires : tie.Need-ticket-lives-requires
+ticket-lives-requires c κs = search needs
+
+returns : tie.Need-returns
+returns c = let a = c .before .before .args in ticket-over (a .h) (a .cache) (a .ts) (a .e) (sym (c .before .ticket-lives .ensures) ∙ not-true _ (c .if1 .taken))
+
+authenticator-lives-requires : tie.Need-authenticator-lives-requires
+authenticator-lives-requires c κs = search needs
+
+returns-2 : tie.Need-returns-2
+returns-2 c =
+    let e = c .before .before in
+    let a = e .before .before .args in
+    authenticator-over (a .h) (a .cache) (a .ts) (a .e) (ticket e) (sym (c .before .authenticator-lives .ensures) ∙ not-true _ (c .if2 .taken))
+
+find-requires : tie.Need-find-requires
+find-requires c κs = search needs
+
+returns-3 : tie.Need-returns-3
+returns-3 c =
+    let e = c .before .before in
+    let a = e .before .before .before .before .args in
+    replayed (a .h) (a .cache) (a .ts) (a .e) (ticket (e .before .before)) (authenticator e) (sym (c .before .find .ensures) ∙ c .if3 .taken)
+
+returns-4 : tie.Need-returns-4
+returns-4 c =
+    let e = c .before .before in
+    let a = e .before .before .before .before .before .before .args in
+    cache-full (a .h) (a .cache) (a .ts) (a .e) (ticket (e .before .before .before .before)) (authenticator (e .before .before)) (new e) (c .if4 .taken)
+
+returns-5 : tie.Need-returns-5
+returns-5 c =
+    let e = c .before .before in
+    let a = e .before .before .before .before .before .before .args in
+    admitted (a .h) (a .cache) (a .ts) (a .e) (ticket (e .before .before .before .before)) (authenticator (e .before .before)) (new e) (c .if4 .left)
+
+pub admit-spec : {M : Type 1} → statement M
+admit-spec =
+    tie.close
+    (tie.spec
+    ticket-lives-requires
+    returns
+    authenticator-lives-requires
+    returns-2
+    find-requires
+    returns-3
+    returns-4
+    returns-5)

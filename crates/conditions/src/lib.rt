@@ -1,0 +1,62 @@
+// The conditions that steps share: whether the intruder can deliver a message, lives, and the replay cache.
+use deduction::compose::derivable;
+use deduction::known::Principals;
+use realm::header::Realm;
+use replay::cache::find;
+use replay::entry::Entry;
+use replay::entry::PLACES;
+use replay::entry::REFUSE_CACHE_FULL;
+use replay::entry::REFUSE_REPLAY;
+ghost use mathlib.Core.Path.{_≡_};
+ghost use Prim.Native.Nat.{_≤_};
+ghost use Rattle.conditions.specs.Conditions.{Delivers, derivableAt, ticketLives, authenticatorLives, admission};
+
+pub const REFUSE_TICKET: u8 = 16;
+
+pub const REFUSE_AUTHENTICATOR: u8 = 17;
+
+// Whether the intruder can derive term m.
+pub fn can_deliver(h: Realm, terms: &[u64], wire: &[u64], m: u16) -> bool
+    requires { ⌜ Delivers h (now terms) (now wire) m ⌝ }
+    ensures { λ r. ⌜ r ≡ derivableAt h (now (terms .entry)) (now (wire .entry)) m ⌝ }
+{
+    let who = Principals {
+        n: h.n as u16,
+        flags: h.flags,
+    };
+    derivable(terms, h.terms, who, wire, m as usize)
+}
+
+// Whether a ticket of this time lives. Sums of times are exact.
+pub fn ticket_lives(h: Realm, ts: u32) -> bool
+    ensures { λ r. ⌜ r ≡ ticketLives h ts ⌝ }
+{
+    (h.clock as u64) < (ts as u64) + (h.ls as u64)
+}
+
+// Whether an authenticator of this time lives.
+pub fn authenticator_lives(h: Realm, ta: u32) -> bool
+    ensures { λ r. ⌜ r ≡ authenticatorLives h ta ⌝ }
+{
+    (h.clock as u64) < (ta as u64) + (h.la as u64)
+}
+
+// 0 where the lives and the replay cache let a delivery pass, else the number of the refusal.
+pub fn admit(h: Realm, cache: [Entry; 16], ts: u32, e: Entry) -> u8
+    requires { ⌜ h .entries ≤ 16 ⌝ }
+    ensures { λ r. ⌜ r ≡ admission h cache ts e ⌝ }
+{
+    if !ticket_lives(h, ts) {
+        return REFUSE_TICKET;
+    }
+    if !authenticator_lives(h, e.ta) {
+        return REFUSE_AUTHENTICATOR;
+    }
+    if find(cache, h.entries, e) {
+        return REFUSE_REPLAY;
+    }
+    if h.entries == PLACES {
+        return REFUSE_CACHE_FULL;
+    }
+    0
+}

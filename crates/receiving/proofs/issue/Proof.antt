@@ -1,0 +1,105 @@
+-- `receiving::issue` meets its contract: by the law for each way out. Assumes nothing.
+use mathlib.Core.Bool.{true, not, _&&_}
+use mathlib.Core.Path.{_≡_, sym, _∙_}
+use native.Mathlib.Omega.{arith}
+use lib.Dec.{eqb}
+use borrow.Author.Tests.{not-true, not-false}
+use Rattle.terms.specs.Meaning.{messageAt}
+use Rattle.forms.specs.Forms.{requestIn}
+use Rattle.forms.specs.declared.Request.the-variants as requests
+use Rattle.receiving.specs.Laws.{no-room-to-issue, no-request, request-barred, request-underivable, request-taken, request-in-range}
+use borrow.Author.Needs.{needs}
+use Rattle.receiving.proofs.issue.Statement.{statement}
+use Rattle.receiving.proofs.issue.Tie as tie
+
+-- ---- what is known on the way
+
+is : (c : tie.After-a) → let a = c .before .before .before .before .before .before .before .args in let x = c .a .given .0 in
+    requestIn (messageAt (a .terms .now) (a .m)) ≡ requests.Is (x .0) (x .1 .0) (x .1 .1 .0)
+is c = sym (c .before .before .open-request .ensures) ∙ c .a .given .1
+
+apart : (c : tie.Else2) → let x = c .before .before .a .given .0 in (not (eqb (x .0) 0) && not (eqb (x .1 .0) 0) && not (eqb (x .0) (x .1 .0))) ≡ true
+apart c = not-false _ (c .if2 .left)
+
+-- ---- the needs
+
+returns : tie.Need-returns
+returns c = let a = c .before .before .before .before .args in no-room-to-issue (a .h) (a .terms .now) (a .wire .now) (a .m) (c .if1 .taken)
+
+open-request-requires : tie.Need-open-request-requires
+open-request-requires c κs = search needs
+
+enum-known-a : tie.Need-enum-known-a
+enum-known-a c = search needs
+
+enum-told : tie.Need-enum-told
+enum-told c = search needs
+
+returns-2 : tie.Need-returns-2
+returns-2 c =
+    let e = c .before .before .before in
+    let a = e .before .before .before .before .args in
+    no-request (a .h) (a .terms .now) (a .wire .now) (a .m) (e .if1 .left) (sym (c .before .before .open-request .ensures) ∙ c .enum-told .given .1)
+
+returns-3 : tie.Need-returns-3
+returns-3 c =
+    let f = c .before .before in
+    let e = f .before .before .before in
+    let a = e .before .before .before .before .args in
+    let x = f .a .given .0 in
+    request-barred (a .h) (a .terms .now) (a .wire .now) (a .m) (e .if1 .left) (x .0) (x .1 .0) (x .1 .1 .0) (is f) (not-true _ (c .if2 .taken))
+
+can-deliver-requires : tie.Need-can-deliver-requires
+can-deliver-requires c κs = search needs
+
+returns-4 : tie.Need-returns-4
+returns-4 c =
+    let g = c .before .before in
+    let f = g .before .before in
+    let e = f .before .before .before in
+    let a = e .before .before .before .before .args in
+    let x = f .a .given .0 in
+    request-underivable (a .h) (a .terms .now) (a .wire .now) (a .m) (e .if1 .left) (x .0) (x .1 .0) (x .1 .1 .0) (is f) (apart g)
+    (sym (c .before .can-deliver .ensures) ∙ not-true _ (c .if3 .taken))
+
+cast-t15 : tie.Need-cast-t15
+cast-t15 c = search needs
+
+cast-t16 : tie.Need-cast-t16
+cast-t16 c =
+    let f = c .before .before .before .before .before in
+    let x = f .a .given .0 in
+    record { fits = omega (arith, request-in-range (f .before .before .before .before .before .before .before .pre) (x .0) (x .1 .0) (x .1 .1 .0) (is f) .0) }
+
+cast-t17 : tie.Need-cast-t17
+cast-t17 c =
+    let f = c .before .before .before .before .before in
+    let x = f .a .given .0 in
+    record { fits = omega (arith, request-in-range (f .before .before .before .before .before .before .before .pre) (x .0) (x .1 .0) (x .1 .1 .0) (is f) .1) }
+
+returns-5 : tie.Need-returns-5
+returns-5 c =
+    let g = c .before .before .before in
+    let f = g .before .before in
+    let e = f .before .before .before in
+    let a = e .before .before .before .before .args in
+    let x = f .a .given .0 in
+    request-taken (a .h) (a .terms .now) (a .wire .now) (a .m) (e .if1 .left) (x .0) (x .1 .0) (x .1 .1 .0) (is f) (apart g)
+    (sym (c .before .before .can-deliver .ensures) ∙ not-false _ (c .before .if3 .left))
+
+pub issue-spec : {M : Type 1} → statement M
+issue-spec =
+    tie.close
+    (tie.spec
+    returns
+    open-request-requires
+    enum-known-a
+    enum-told
+    returns-2
+    returns-3
+    can-deliver-requires
+    returns-4
+    cast-t15
+    cast-t16
+    cast-t17
+    returns-5)

@@ -1,0 +1,151 @@
+// Receiving: the steps that take a message, 3 to 6. A message is taken apart from the outside in; one that has not the
+// step's form gets 14.
+use conditions::REFUSE_TICKET;
+use conditions::admit;
+use conditions::can_deliver;
+use conditions::ticket_lives;
+use exchange::event::Event;
+use exchange::run::Row;
+use forms::Confirmation;
+use forms::Delivery;
+use forms::Reply;
+use forms::Request;
+use forms::open_confirmation;
+use forms::open_delivery;
+use forms::open_reply;
+use forms::open_request;
+use realm::header::Realm;
+use replay::entry::Entry;
+use runs::row::MAX_RUNS;
+ghost use mathlib.Core.Path.{_≡_};
+ghost use Prim.Native.Nat.{_≤_};
+ghost use Rattle.conditions.specs.Conditions.{Delivers};
+ghost use Rattle.receiving.specs.Take.{issues, authenticates, takes, finishes};
+
+pub const REFUSE_RUNS_FULL: u8 = 13;
+
+pub const REFUSE_FORM: u8 = 14;
+
+pub const REFUSE_UNDERIVABLE: u8 = 15;
+
+// What a step comes to: the event that it is, or the number of its refusal.
+pub enum Verdict {
+    Takes(Event),
+    Refused(u8),
+}
+
+// Step 3: the server answers a request.
+pub fn issue(h: Realm, terms: &[u64], wire: &[u64], m: u16) -> Verdict
+    requires { ⌜ Delivers h (now terms) (now wire) m ⌝ }
+    ensures { λ r. ⌜ r ≡ issues h (now (terms .entry)) (now (wire .entry)) m ⌝ }
+{
+    if MAX_RUNS <= h.runs {
+        return Verdict::Refused(REFUSE_RUNS_FULL);
+    }
+    let Request::Is { a, b, n } = open_request(terms, m) else {
+        return Verdict::Refused(REFUSE_FORM);
+    };
+    if !((a != 0) & (b != 0) & (a != b)) {
+        return Verdict::Refused(REFUSE_FORM);
+    }
+    if !can_deliver(h, terms, wire, m) {
+        return Verdict::Refused(REFUSE_UNDERIVABLE);
+    }
+    Verdict::Takes(Event::Issue {
+        r: h.runs as u8,
+        a: a as u8,
+        b: b as u8,
+        ts: h.clock,
+        n,
+    })
+}
+
+// Step 4: the initiator takes the server's reply to its own request.
+pub fn authenticate(h: Realm, terms: &[u64], wire: &[u64], run: u8, own: Row, m: u16) -> Verdict
+    requires { ⌜ Delivers h (now terms) (now wire) m ⌝ }
+    ensures { λ r. ⌜ r ≡ authenticates h (now (terms .entry)) (now (wire .entry)) run own m ⌝ }
+{
+    let Reply::Is { k, b, ts, n, a } = open_reply(terms, m) else {
+        return Verdict::Refused(REFUSE_FORM);
+    };
+    if !((b == own.b as u16) & (n == run as u16) & (a == own.a as u16)) {
+        return Verdict::Refused(REFUSE_FORM);
+    }
+    if !can_deliver(h, terms, wire, m) {
+        return Verdict::Refused(REFUSE_UNDERIVABLE);
+    }
+    if !ticket_lives(h, ts) {
+        return Verdict::Refused(REFUSE_TICKET);
+    }
+    Verdict::Takes(Event::Authenticate {
+        r: run,
+        a: own.a,
+        b: own.b,
+        k: k as u8,
+        ts,
+        ta: h.clock,
+    })
+}
+
+// Step 5: the responder takes a ticket and an authenticator.
+pub fn accept(
+    h: Realm,
+    terms: &[u64],
+    wire: &[u64],
+    cache: [Entry; 16],
+    run: u8,
+    own: Row,
+    m: u16,
+) -> Verdict
+    requires { ⌜ Delivers h (now terms) (now wire) m × (h .entries ≤ 16) ⌝ }
+    ensures { λ r. ⌜ r ≡ takes h (now (terms .entry)) (now (wire .entry)) cache run own m ⌝ }
+{
+    let Delivery::Is { k, a, ts, b, ta } = open_delivery(terms, m) else {
+        return Verdict::Refused(REFUSE_FORM);
+    };
+    if !((a == own.a as u16) & (b == own.b as u16)) {
+        return Verdict::Refused(REFUSE_FORM);
+    }
+    if !can_deliver(h, terms, wire, m) {
+        return Verdict::Refused(REFUSE_UNDERIVABLE);
+    }
+    let number = admit(h, cache, ts, Entry { b, k, ta });
+    if number != 0 {
+        return Verdict::Refused(number);
+    }
+    Verdict::Takes(Event::Accept {
+        r: run,
+        a: own.a,
+        b: own.b,
+        k: k as u8,
+        ts,
+        ta,
+    })
+}
+
+// Step 6: the initiator takes the responder's confirmation of its own values.
+pub fn finish(h: Realm, terms: &[u64], wire: &[u64], run: u8, own: Row, m: u16) -> Verdict
+    requires { ⌜ Delivers h (now terms) (now wire) m ⌝ }
+    ensures { λ r. ⌜ r ≡ finishes h (now (terms .entry)) (now (wire .entry)) run own m ⌝ }
+{
+    let Confirmation::Is { ta, k } = open_confirmation(terms, m) else {
+        return Verdict::Refused(REFUSE_FORM);
+    };
+    if !((ta == own.ta) & (k == own.k as u16)) {
+        return Verdict::Refused(REFUSE_FORM);
+    }
+    if !can_deliver(h, terms, wire, m) {
+        return Verdict::Refused(REFUSE_UNDERIVABLE);
+    }
+    if !ticket_lives(h, own.ts) {
+        return Verdict::Refused(REFUSE_TICKET);
+    }
+    Verdict::Takes(Event::Finish {
+        r: run,
+        a: own.a,
+        b: own.b,
+        k: own.k,
+        ts: own.ts,
+        ta: own.ta,
+    })
+}
