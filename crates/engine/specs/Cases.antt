@@ -30,8 +30,9 @@ use Rattle.exchange.specs.declared.call.Answer.the-variants.{Number, OkRun, Ok,
 use Rattle.exchange.specs.declared.call.Call.{Call}
 use Rattle.exchange.specs.declared.call.Call.the-variants.{Term, Step}
 use Rattle.exchange.specs.Needs.{needTable}
-use Rattle.forms.specs.Forms.{requestIn, replyIn, ticketIn, authenticatorIn, deliveryIn, confirmationIn}
-use Rattle.forms.specs.Layers.{ofKind, layer, _▸_}
+use Rattle.layers.specs.Layers.{ofKind, layer, _▸_}
+use Rattle.forms.specs.Forms.{requestIn, replyIn, confirmationIn}
+use Rattle.delivery.specs.Delivery.{ticketIn, authenticatorIn, deliveryIn}
 use Rattle.runs.specs.AllOf.{each}
 use Rattle.runs.specs.Lent.{rowHolds, rowsHold}
 use Rattle.runs.specs.Runs.{runAt, setRun}

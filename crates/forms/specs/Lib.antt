@@ -1,6 +1,4 @@
--- The messages that steps take. Promises is to be read first.
+-- The messages that steps 3, 4 and 6 take. Promises is to be read first.
 pub mod Promises
-pub mod Layers
 pub mod Forms
-pub mod Present
 pub mod Laws

@@ -2,33 +2,16 @@
 -- of the term's message; the laws say that the answer is `Is` with some values exactly if the message is the exchange's
 -- message of that name with these values, so it is `Other` exactly where "m has not the step's form".
 -- Assumes nothing.
-use mathlib.Core.List.{List}
 use mathlib.Core.Logic.{_↔_}
-use mathlib.Core.Path.{_≡_, subst}
-use Prim.Native.Nat.{ℕ, _<_}
-use Rattle.drafts.specs.Writes.{Writes, table-writes}
-use Rattle.exchange.specs.Messages.{request, reply, ticket, authenticator, confirmation}
-use Rattle.terms.specs.Meaning.{messageAt}
-use Rattle.terms.specs.Message.{Message, pair}
-use Rattle.terms.specs.Valid.{Valid}
-use Rattle.forms.specs.declared.Authenticator.the-variants as authenticators
+use mathlib.Core.Path.{_≡_}
+use Prim.Native.Nat.{ℕ}
+use Rattle.exchange.specs.Messages.{request, reply, confirmation}
+use Rattle.terms.specs.Message.{Message}
 use Rattle.forms.specs.declared.Confirmation.the-variants as confirmations
-use Rattle.forms.specs.declared.Delivery.the-variants as deliveries
 use Rattle.forms.specs.declared.Reply.the-variants as replies
 use Rattle.forms.specs.declared.Request.the-variants as requests
-use Rattle.forms.specs.declared.Ticket.the-variants as tickets
-use Rattle.forms.specs.Forms.{requestIn, replyIn, ticketIn, authenticatorIn, deliveryIn, confirmationIn}
-use Rattle.forms.specs.Laws.Forms.{request-form, reply-form, ticket-form, authenticator-form, delivery-form, confirmation-form}
-use Rattle.forms.specs.Present.{Present}
-
-module _ {n : ℕ} {ts : List ℕ} {count : ℕ} (v : Valid n ts count) {i : ℕ} (h : i < count) where
-  -- the calls may be asked of any term of a table that holds together
-  pub present : Present ts i
-  present = record { n = n; count = count; valid = v; below = h }
-
-  -- what was read is in range
-  pub in-range : {m : Message} → messageAt ts i ≡ m → Writes n m
-  in-range e = subst (Writes n) e (table-writes (v .terms) i h)
+use Rattle.forms.specs.Forms.{requestIn, replyIn, confirmationIn}
+use Rattle.forms.specs.Laws.{request-form, reply-form, confirmation-form}
 
 module _ (m : Message) where
   pub is-request : (a b n : ℕ) → (requestIn m ≡ requests.Is a b n) ↔ (m ≡ request a b n)
@@ -36,15 +19,6 @@ module _ (m : Message) where
 
   pub is-reply : (k b ts n a : ℕ) → (replyIn m ≡ replies.Is k b ts n a) ↔ (m ≡ reply k b ts n a)
   is-reply = reply-form m
-
-  pub is-ticket : (k a ts b : ℕ) → (ticketIn m ≡ tickets.Is k a ts b) ↔ (m ≡ ticket k a ts b)
-  is-ticket = ticket-form m
-
-  pub is-authenticator : (a ta k : ℕ) → (authenticatorIn m ≡ authenticators.Is a ta k) ↔ (m ≡ authenticator a ta k)
-  is-authenticator = authenticator-form m
-
-  pub is-delivery : (k a ts b ta : ℕ) → (deliveryIn m ≡ deliveries.Is k a ts b ta) ↔ (m ≡ pair (ticket k a ts b) (authenticator a ta k))
-  is-delivery = delivery-form m
 
   pub is-confirmation : (ta k : ℕ) → (confirmationIn m ≡ confirmations.Is ta k) ↔ (m ≡ confirmation ta k)
   is-confirmation = confirmation-form m

@@ -1,107 +1,18 @@
-// The messages of the exchange, taken apart from the outside in. Each layer is an answer of its own, and the first that
-// does not fit ends it with `Other`, which the step that asked turns into refusal 14. Tests of a value against the run's
-// own are the steps'.
+// The messages that steps 3, 4 and 6 take, taken apart from the outside in. The first layer that does not fit ends it with
+// `Other`, which the step that asked turns into refusal 14. Tests of a value against the run's own are the steps'.
+use layers::Opened;
+use layers::OpenedTime;
+use layers::principal_first;
+use layers::session_key_first;
+use layers::term_at;
+use layers::time_first;
+use layers::under_long_term_key;
+use layers::under_session_key;
 use words::Term;
-use words::decode;
 ghost use mathlib.Core.Path.{_≡_};
 ghost use Rattle.terms.specs.Meaning.{messageAt};
-ghost use Rattle.terms.specs.Rules.{termAt};
-ghost use Rattle.forms.specs.Forms.{requestIn, replyIn, ticketIn, authenticatorIn, deliveryIn, confirmationIn};
-ghost use Rattle.forms.specs.Layers.{PRINCIPAL, TIME, LONG_TERM_KEY, SESSION_KEY, first, under};
-ghost use Rattle.forms.specs.Present.{Present, Opens, read, readTime};
-
-// ---- layers
-
-// Term number i.
-fn term_at(terms: &[u64], i: u16) -> Term
-    requires { ⌜ Present (now terms) i ⌝ }
-    ensures { λ r. ⌜ r ≡ termAt (now (terms .entry)) i ⌝ }
-{
-    decode(terms[i as usize])
-}
-
-// The value of a layer, and the number of the term that is left.
-pub enum Opened {
-    Value(u16, u16),
-    Other,
-}
-
-pub enum OpenedTime {
-    Value(u32, u16),
-    Other,
-}
-
-// [p, ..] with a principal p.
-fn principal_first(terms: &[u64], i: u16) -> Opened
-    requires { ⌜ Present (now terms) i ⌝ }
-    ensures { λ r. ⌜ Opens (now (terms .entry)) (read r) (first PRINCIPAL (messageAt (now (terms .entry)) i)) ⌝ }
-{
-    let Term::Pair(l, rest) = term_at(terms, i) else {
-        return Opened::Other;
-    };
-    let Term::Principal(p) = term_at(terms, l) else {
-        return Opened::Other;
-    };
-    Opened::Value(p, rest)
-}
-
-// [K, ..] with a session key K.
-fn session_key_first(terms: &[u64], i: u16) -> Opened
-    requires { ⌜ Present (now terms) i ⌝ }
-    ensures { λ r. ⌜ Opens (now (terms .entry)) (read r) (first SESSION_KEY (messageAt (now (terms .entry)) i)) ⌝ }
-{
-    let Term::Pair(l, rest) = term_at(terms, i) else {
-        return Opened::Other;
-    };
-    let Term::SessionKey(k) = term_at(terms, l) else {
-        return Opened::Other;
-    };
-    Opened::Value(k, rest)
-}
-
-// [T, ..] with a time T.
-fn time_first(terms: &[u64], i: u16) -> OpenedTime
-    requires { ⌜ Present (now terms) i ⌝ }
-    ensures { λ r. ⌜ Opens (now (terms .entry)) (readTime r) (first TIME (messageAt (now (terms .entry)) i)) ⌝ }
-{
-    let Term::Pair(l, rest) = term_at(terms, i) else {
-        return OpenedTime::Other;
-    };
-    let Term::Time(t) = term_at(terms, l) else {
-        return OpenedTime::Other;
-    };
-    OpenedTime::Value(t, rest)
-}
-
-// {..} under the key of a principal.
-fn under_long_term_key(terms: &[u64], i: u16) -> Opened
-    requires { ⌜ Present (now terms) i ⌝ }
-    ensures { λ r. ⌜ Opens (now (terms .entry)) (read r) (under LONG_TERM_KEY (messageAt (now (terms .entry)) i)) ⌝ }
-{
-    let Term::Encrypted(body, key) = term_at(terms, i) else {
-        return Opened::Other;
-    };
-    let Term::LongTermKey(p) = term_at(terms, key) else {
-        return Opened::Other;
-    };
-    Opened::Value(p, body)
-}
-
-// {..}K under a session key K.
-fn under_session_key(terms: &[u64], i: u16) -> Opened
-    requires { ⌜ Present (now terms) i ⌝ }
-    ensures { λ r. ⌜ Opens (now (terms .entry)) (read r) (under SESSION_KEY (messageAt (now (terms .entry)) i)) ⌝ }
-{
-    let Term::Encrypted(body, key) = term_at(terms, i) else {
-        return Opened::Other;
-    };
-    let Term::SessionKey(k) = term_at(terms, key) else {
-        return Opened::Other;
-    };
-    Opened::Value(k, body)
-}
-
-// ---- the messages that steps take
+ghost use Rattle.layers.specs.Present.{Present};
+ghost use Rattle.forms.specs.Forms.{requestIn, replyIn, confirmationIn};
 
 pub enum Request {
     Is { a: u16, b: u16, n: u16 },
@@ -157,92 +68,6 @@ pub fn open_reply(terms: &[u64], m: u16) -> Reply
         return Reply::Other;
     };
     Reply::Is { k, b, ts, n, a }
-}
-
-pub enum Ticket {
-    Is { k: u16, a: u16, ts: u32, b: u16 },
-    Other,
-}
-
-// {K, a, Ts} under b's key.
-pub fn open_ticket(terms: &[u64], m: u16) -> Ticket
-    requires { ⌜ Present (now terms) m ⌝ }
-    ensures { λ r. ⌜ r ≡ ticketIn (messageAt (now (terms .entry)) m) ⌝ }
-{
-    let Opened::Value(b, body) = under_long_term_key(terms, m) else {
-        return Ticket::Other;
-    };
-    let Opened::Value(k, after_k) = session_key_first(terms, body) else {
-        return Ticket::Other;
-    };
-    let Opened::Value(a, after_a) = principal_first(terms, after_k) else {
-        return Ticket::Other;
-    };
-    let Term::Time(ts) = term_at(terms, after_a) else {
-        return Ticket::Other;
-    };
-    Ticket::Is { k, a, ts, b }
-}
-
-pub enum Authenticator {
-    Is { a: u16, ta: u32, k: u16 },
-    Other,
-}
-
-// {a, Ta}K.
-pub fn open_authenticator(terms: &[u64], m: u16) -> Authenticator
-    requires { ⌜ Present (now terms) m ⌝ }
-    ensures { λ r. ⌜ r ≡ authenticatorIn (messageAt (now (terms .entry)) m) ⌝ }
-{
-    let Opened::Value(k, body) = under_session_key(terms, m) else {
-        return Authenticator::Other;
-    };
-    let Opened::Value(a, after_a) = principal_first(terms, body) else {
-        return Authenticator::Other;
-    };
-    let Term::Time(ta) = term_at(terms, after_a) else {
-        return Authenticator::Other;
-    };
-    Authenticator::Is { a, ta, k }
-}
-
-pub enum Delivery {
-    Is {
-        k: u16,
-        a: u16,
-        ts: u32,
-        b: u16,
-        ta: u32,
-    },
-    Other,
-}
-
-// The pair of {K, a, Ts} under b's key and {a, Ta}K, with the same K and a in both.
-pub fn open_delivery(terms: &[u64], m: u16) -> Delivery
-    requires { ⌜ Present (now terms) m ⌝ }
-    ensures { λ r. ⌜ r ≡ deliveryIn (messageAt (now (terms .entry)) m) ⌝ }
-{
-    let Term::Pair(l, r) = term_at(terms, m) else {
-        return Delivery::Other;
-    };
-    let Ticket::Is { k, a, ts, b } = open_ticket(terms, l) else {
-        return Delivery::Other;
-    };
-    let Authenticator::Is {
-        a: sender,
-        ta,
-        k: under,
-    } = open_authenticator(terms, r)
-    else {
-        return Delivery::Other;
-    };
-    if sender != a {
-        return Delivery::Other;
-    }
-    if under != k {
-        return Delivery::Other;
-    }
-    Delivery::Is { k, a, ts, b, ta }
 }
 
 pub enum Confirmation {

@@ -9,12 +9,15 @@ use borrow.Author.Tests.{lt-ltb, le-ltb, eq-eqb, ne-eqb}
 use Rattle.terms.specs.Meaning.{messageAt}
 use Rattle.exchange.specs.declared.event.Event.the-variants.{Issue, Authenticate, Accept, Finish}
 use Rattle.exchange.specs.declared.run.Row.{Row}
-use Rattle.forms.specs.Forms.{requestIn, replyIn, deliveryIn, confirmationIn}
-use Rattle.forms.specs.Promises.{in-range, is-request, is-reply, is-delivery}
+use Rattle.layers.specs.Promises.{in-range}
+use Rattle.forms.specs.Forms.{requestIn, replyIn, confirmationIn}
+use Rattle.forms.specs.Promises.{is-request, is-reply}
 use Rattle.forms.specs.declared.Confirmation.the-variants as confirmations
-use Rattle.forms.specs.declared.Delivery.the-variants as deliveries
 use Rattle.forms.specs.declared.Reply.the-variants as replies
 use Rattle.forms.specs.declared.Request.the-variants as requests
+use Rattle.delivery.specs.Delivery.{deliveryIn}
+use Rattle.delivery.specs.Promises.{is-delivery}
+use Rattle.delivery.specs.declared.Delivery.the-variants as deliveries
 use Rattle.replay.specs.declared.entry.Entry.{Entry}
 use Rattle.realm.specs.declared.header.Realm.{Realm}
 use Rattle.receiving.specs.declared.Verdict.the-variants.{Takes, Refused}

@@ -17,8 +17,9 @@ use Rattle.deduction.specs.Sweep.{visitOf, sweepOf}
 use Rattle.deduction.specs.Test.{saturateOf, composesOf, derivableOf}
 use Rattle.sending.specs.Send.{sendOf}
 use Rattle.exchange.specs.Needs.{needTable}
-use Rattle.forms.specs.Forms.{requestIn, replyIn, ticketIn, authenticatorIn, deliveryIn, confirmationIn}
-use Rattle.forms.specs.Layers.{ofKind, layer, _▸_}
+use Rattle.layers.specs.Layers.{ofKind, layer, _▸_}
+use Rattle.forms.specs.Forms.{requestIn, replyIn, confirmationIn}
+use Rattle.delivery.specs.Delivery.{ticketIn, authenticatorIn, deliveryIn}
 use Rattle.runs.specs.Runs.{runAt, setRun}
 use Rattle.replay.specs.Cache.{present, stays, kept, written}
 use Rattle.realm.specs.Input.{usesTable, inRange, inputRefusal}

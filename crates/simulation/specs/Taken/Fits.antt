@@ -7,7 +7,7 @@ use native.Mathlib.Omega.{arith}
 use Rattle.drafts.specs.Writes.{Writes}
 use Rattle.terms.specs.Message.{Message}
 use Rattle.sending.specs.Send.{AllWrites}
-use Rattle.forms.specs.Promises.{in-range}
+use Rattle.layers.specs.Promises.{in-range}
 use Rattle.replay.specs.Cache.{present, entries}
 use Rattle.runs.specs.Lent.{PrincipalsFit}
 use Rattle.exchange.specs.declared.call.Call.{Call}

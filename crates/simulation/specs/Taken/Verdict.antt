@@ -11,16 +11,18 @@ use Rattle.terms.specs.Message.{Message, pair}
 use Rattle.deduction.specs.Derives.{Derives}
 use Rattle.deduction.specs.Known.{Known}
 use Rattle.deduction.specs.Promises.{function-exact}
-use Rattle.forms.specs.Forms.{requestIn, replyIn, deliveryIn, confirmationIn}
-use Rattle.forms.specs.Promises.{is-request, is-reply, is-delivery, is-confirmation}
+use Rattle.forms.specs.Forms.{requestIn, replyIn, confirmationIn}
+use Rattle.forms.specs.Promises.{is-request, is-reply, is-confirmation}
 use Rattle.forms.specs.declared.Confirmation.{Confirmation}
 use Rattle.forms.specs.declared.Confirmation.the-variants as confirmations
-use Rattle.forms.specs.declared.Delivery.{Delivery}
-use Rattle.forms.specs.declared.Delivery.the-variants as deliveries
 use Rattle.forms.specs.declared.Reply.{Reply}
 use Rattle.forms.specs.declared.Reply.the-variants as replies
 use Rattle.forms.specs.declared.Request.{Request}
 use Rattle.forms.specs.declared.Request.the-variants as requests
+use Rattle.delivery.specs.Delivery.{deliveryIn}
+use Rattle.delivery.specs.Promises.{is-delivery}
+use Rattle.delivery.specs.declared.Delivery.{Delivery}
+use Rattle.delivery.specs.declared.Delivery.the-variants as deliveries
 use Rattle.replay.specs.Cache.{entries}
 use Rattle.replay.specs.declared.entry.Entry.{Entry}
 use Rattle.runs.specs.AllOf.{five}

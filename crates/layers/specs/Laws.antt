@@ -1,0 +1,4 @@
+-- The proofs behind Promises and the contracts.
+pub mod Layers
+pub mod Present
+pub mod Ways
