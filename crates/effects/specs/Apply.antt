@@ -12,8 +12,8 @@ use Rattle.exchange.specs.Log.{sends, clockAfter}
 use Rattle.realm.specs.declared.header.Realm.{Realm}
 use Rattle.realm.specs.Tables.{Tables, tables, Together}
 use Rattle.effects.specs.declared.apply.After.{After}
-use Rattle.effects.specs.Row.{changeOf, ChangeFits, changed}
-use Rattle.effects.specs.Cache.{cacheOf, EntryRoom}
+use Rattle.changes.specs.Row.{changeOf, ChangeFits, changed}
+use Rattle.changes.specs.Cache.{cacheOf, EntryRoom}
 
 -- ---- what a call comes to
 

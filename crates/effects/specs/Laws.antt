@@ -1,5 +1,2 @@
--- The laws by which the functions meet their contracts, one for each way out.
-pub mod Row
-pub mod Cache
-pub mod Sends
+-- The laws by which `apply` meets its contract, one for each way out.
 pub mod Apply

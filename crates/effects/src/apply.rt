@@ -1,7 +1,7 @@
 // An event's whole effect. Its terms are the last thing that can be refused: where they do not all fit nothing is written.
-use super::cache::cache_after;
-use super::row::write_row;
-use super::sends::send_event;
+use changes::cache::cache_after;
+use changes::row::write_row;
+use changes::sends::send_event;
 use exchange::call::Answer;
 use exchange::event::Event;
 use realm::header::Realm;

@@ -1,5 +1,2 @@
-// What an event does to the tables: its messages are sent, a row is written, the cache and the clock move.
+// An event's whole effect: its messages are sent, its row is written, the cache and the clock move, and the answer.
 pub mod apply;
-pub mod cache;
-pub mod row;
-pub mod sends;

@@ -22,7 +22,7 @@ use Rattle.replay.specs.Promises.{kept-exactly}
 use Rattle.realm.specs.declared.header.Realm.{Realm}
 use Rattle.realm.specs.Opening.{header}
 use Rattle.realm.specs.Tables.{Tables, EntryFits, empty, Together}
-use Rattle.effects.specs.Cache.{cacheOf}
+use Rattle.changes.specs.Cache.{cacheOf}
 use Rattle.simulation.specs.Values.{logged}
 use Rattle.simulation.specs.Cached.{logged-kept}
 use Rattle.simulation.specs.Taken.Fits.{EventFits}

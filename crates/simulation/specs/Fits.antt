@@ -7,8 +7,8 @@ use Rattle.exchange.specs.declared.event.Event.the-variants.{Initiate, Respond,
 use Rattle.exchange.specs.Log.{clockAfter}
 use Rattle.realm.specs.Tables.{Tables, Together}
 use Rattle.simulation.specs.Taken.Fits.{EventFits, fits-writes}
-use Rattle.effects.specs.Row.{changeOf, ChangeFits}
-use Rattle.effects.specs.Cache.{EntryRoom}
+use Rattle.changes.specs.Row.{changeOf, ChangeFits}
+use Rattle.changes.specs.Cache.{EntryRoom}
 use Rattle.effects.specs.Apply.{Ready}
 
 -- ---- the clock

@@ -28,7 +28,7 @@ use Rattle.runs.specs.Promises.{hold-more}
 use Rattle.runs.specs.Lent.{RowsHold}
 use Rattle.realm.specs.Opening.{header}
 use Rattle.realm.specs.Tables.{Tables, Together}
-use Rattle.effects.specs.Row.{changeOf}
+use Rattle.changes.specs.Row.{changeOf}
 use Rattle.effects.specs.Apply.{written}
 use Rattle.simulation.specs.Values.{valuesOf}
 use Rattle.simulation.specs.Fits.{ClockFits, fits-ready}

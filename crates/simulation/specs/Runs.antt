@@ -27,9 +27,9 @@ use Rattle.runs.specs.Rows.{rowsOf}
 use Rattle.runs.specs.Lent.{hasStage, PrincipalsFit, KeyStands, RunHolds, RowsHold}
 use Rattle.runs.specs.Promises.{writes, hold-set, hold-open, hold-fits}
 use Rattle.realm.specs.Tables.{Tables, Together}
-use Rattle.effects.specs.declared.row.Change.{Change}
-use Rattle.effects.specs.declared.row.Change.the-variants as rows
-use Rattle.effects.specs.Row.{changeOf, changed}
+use Rattle.changes.specs.declared.row.Change.{Change}
+use Rattle.changes.specs.declared.row.Change.the-variants as rows
+use Rattle.changes.specs.Row.{changeOf, changed}
 use Rattle.effects.specs.Apply.{runCount}
 use Rattle.simulation.specs.Taken.Fits.{EventFits}
 

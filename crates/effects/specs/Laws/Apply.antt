@@ -15,9 +15,9 @@ use Rattle.exchange.specs.Log.{sends, clockAfter}
 use Rattle.replay.specs.declared.cache.Swept.{Swept}
 use Rattle.realm.specs.Tables.{Tables, tables}
 use Rattle.effects.specs.Apply.{answerOf, runCount, written, applied, Ready}
-use Rattle.effects.specs.Cache.{cacheOf}
-use Rattle.effects.specs.Row.{changeOf, changed}
-use Rattle.effects.specs.Sends.{Sends}
+use Rattle.changes.specs.Cache.{cacheOf}
+use Rattle.changes.specs.Row.{changeOf, changed}
+use Rattle.changes.specs.Sends.{Sends}
 
 module _ (t : Tables) (e : Event) where
   -- what is sent

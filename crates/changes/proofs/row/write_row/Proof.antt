@@ -1,11 +1,11 @@
--- `effects::row::write_row` meets its contract, by the law of an event that has a row. Assumes nothing.
+-- `changes::row::write_row` meets its contract, by the law of an event that has a row. Assumes nothing.
 use mathlib.Core.Path.{_≡_, sym, _∙_}
 use borrow.Author.Needs.{needs}
-use Rattle.effects.specs.declared.row.Change.the-variants.{Row}
-use Rattle.effects.specs.Row.{changeOf}
-use Rattle.effects.specs.Laws.Row.{row-below, row-set}
-use Rattle.effects.proofs.row.write_row.Statement.{statement}
-use Rattle.effects.proofs.row.write_row.Tie as tie
+use Rattle.changes.specs.declared.row.Change.the-variants.{Row}
+use Rattle.changes.specs.Row.{changeOf}
+use Rattle.changes.specs.Laws.Row.{row-below, row-set}
+use Rattle.changes.proofs.row.write_row.Statement.{statement}
+use Rattle.changes.proofs.row.write_row.Tie as tie
 
 -- where the change is known to be a row
 change : (c : tie.After-r) → changeOf (c .before .before .before .before .args .event) ≡ Row (c .r .given .0 .0) (c .r .given .0 .1 .0)

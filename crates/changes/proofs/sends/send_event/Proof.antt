@@ -1,10 +1,10 @@
--- `effects::sends::send_event` meets its contract: each arm by the event that it is, and by the law of what it sends. Assumes nothing.
+-- `changes::sends::send_event` meets its contract: each arm by the event that it is, and by the law of what it sends. Assumes nothing.
 use mathlib.Core.Path.{ap}
 use borrow.Author.Needs.{needs}
 use Rattle.exchange.specs.Log.{sends}
-use Rattle.effects.specs.Laws.Sends.{none-sent, request-sendable, request-sent, issue-sendable, issue-sent, authenticator-sendable, authenticator-sent, confirmation-sendable, confirmation-sent, key-sendable, key-sent}
-use Rattle.effects.proofs.sends.send_event.Statement.{statement}
-use Rattle.effects.proofs.sends.send_event.Tie as tie
+use Rattle.changes.specs.Laws.Sends.{none-sent, request-sendable, request-sent, issue-sendable, issue-sent, authenticator-sendable, authenticator-sent, confirmation-sendable, confirmation-sent, key-sendable, key-sent}
+use Rattle.changes.proofs.sends.send_event.Statement.{statement}
+use Rattle.changes.proofs.sends.send_event.Tie as tie
 
 enum-known-event : tie.Need-enum-known-event
 enum-known-event c = search needs

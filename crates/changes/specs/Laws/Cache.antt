@@ -12,7 +12,7 @@ use Rattle.replay.specs.Cache.Places.{append-length, written-append}
 use Rattle.replay.specs.declared.cache.Swept.{Swept}
 use Rattle.replay.specs.declared.entry.Entry.{Entry}
 use Rattle.realm.specs.declared.header.Realm.{Realm}
-use Rattle.effects.specs.Cache.{cacheOf, EntryRoom}
+use Rattle.changes.specs.Cache.{cacheOf, EntryRoom}
 
 module _ {e : Event} {r a b k ts ta : ℕ} (step : e ≡ Accept r a b k ts ta) where
   pub entry-room : (count : ℕ) → EntryRoom count e → count < 16

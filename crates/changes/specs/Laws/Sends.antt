@@ -19,7 +19,7 @@ use Rattle.sending.specs.Send.{AllWrites, Sendable, Sending, sent, sendOf}
 use Rattle.exchange.specs.declared.event.Event.{Event}
 use Rattle.exchange.specs.declared.event.Event.the-variants.{Initiate, Issue, Authenticate, Accept, Leak}
 use Rattle.exchange.specs.Log.{sends}
-use Rattle.effects.specs.Sends.{Sends}
+use Rattle.changes.specs.Sends.{Sends}
 
 module _ {ts ws : List ℕ} {count : ℕ} {e : Event} (s : Sends ts ws count e) where
   -- ---- any event

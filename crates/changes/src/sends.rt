@@ -17,7 +17,7 @@ use sending::send;
 ghost use mathlib.Core.Path.{_≡_};
 ghost use Rattle.sending.specs.Send.{Sendable, outcome, sendOf};
 ghost use Rattle.exchange.specs.Log.{sends};
-ghost use Rattle.effects.specs.Sends.{Sends};
+ghost use Rattle.changes.specs.Sends.{Sends};
 
 // Sends the messages of an event. A refused call leaves every place as it was.
 pub fn send_event(terms: &mut [u64], wire: &mut [u64], count: usize, event: Event) -> Sent

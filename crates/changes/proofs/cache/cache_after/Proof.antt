@@ -1,4 +1,4 @@
--- `effects::cache::cache_after` meets its contract: each arm by the event that it is. Assumes nothing.
+-- `changes::cache::cache_after` meets its contract: each arm by the event that it is. Assumes nothing.
 use mathlib.Core.List.{List, [], _∷_}
 use mathlib.Core.Path.{_≡_, refl}
 use Prim.Native.Nat.{ℕ}
@@ -11,10 +11,10 @@ use Rattle.exchange.specs.declared.event.Event.{Event}
 use Rattle.exchange.specs.declared.event.Event.the-variants.{Initiate, Respond, Issue, Authenticate, Accept, Finish, Tick, Purge, Leak, Nothing}
 use Rattle.replay.specs.declared.entry.Entry.{Entry}
 use Rattle.realm.specs.declared.header.Realm.{Realm}
-use Rattle.effects.specs.Cache.{same, cacheOf}
-use Rattle.effects.specs.Laws.Cache.{entry-room, entry-stored, swept-is}
-use Rattle.effects.proofs.cache.cache_after.Statement.{statement}
-use Rattle.effects.proofs.cache.cache_after.Tie as tie
+use Rattle.changes.specs.Cache.{same, cacheOf}
+use Rattle.changes.specs.Laws.Cache.{entry-room, entry-stored, swept-is}
+use Rattle.changes.proofs.cache.cache_after.Statement.{statement}
+use Rattle.changes.proofs.cache.cache_after.Tie as tie
 
 -- the events that leave the cache
 abbrev others : List ℕ

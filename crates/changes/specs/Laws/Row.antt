@@ -5,9 +5,9 @@ use mathlib.Core.List.{List}
 use Prim.Native.Nat.{ℕ, _<_}
 use Rattle.exchange.specs.declared.run.Row as run
 use Rattle.runs.specs.Runs.{setRun}
-use Rattle.effects.specs.declared.row.Change.{Change}
-use Rattle.effects.specs.declared.row.Change.the-variants.{Row}
-use Rattle.effects.specs.Row.{ChangeFits, changed}
+use Rattle.changes.specs.declared.row.Change.{Change}
+use Rattle.changes.specs.declared.row.Change.the-variants.{Row}
+use Rattle.changes.specs.Row.{ChangeFits, changed}
 
 module _ {x : Change} {r : ℕ} {row : run.Row} (e : x ≡ Row r row) where
   pub row-below : ChangeFits x → r < 64

@@ -1,7 +1,7 @@
--- `effects::row::change_of` meets its contract: each arm by the event that it is. Assumes nothing.
+-- `changes::row::change_of` meets its contract: each arm by the event that it is. Assumes nothing.
 use borrow.Author.Needs.{needs}
-use Rattle.effects.proofs.row.change_of.Statement.{statement}
-use Rattle.effects.proofs.row.change_of.Tie as tie
+use Rattle.changes.proofs.row.change_of.Statement.{statement}
+use Rattle.changes.proofs.row.change_of.Tie as tie
 
 enum-known-event : tie.Need-enum-known-event
 enum-known-event c = search needs

@@ -7,8 +7,8 @@ use Rattle.exchange.specs.declared.event.Event.the-variants.{Initiate, Respond,
 use Rattle.exchange.specs.declared.event.Event.the-variants as events
 use Rattle.exchange.specs.Log.{stored, initiatorOpened, initiatorAuthenticated, initiatorDone, responderOpened, responderDone, serverDone}
 use Rattle.runs.specs.Runs.{setRun}
-use Rattle.effects.specs.declared.row.Change.{Change}
-use Rattle.effects.specs.declared.row.Change.the-variants.{Row, Nothing}
+use Rattle.changes.specs.declared.row.Change.{Change}
+use Rattle.changes.specs.declared.row.Change.the-variants.{Row, Nothing}
 
 abbrev pub changeOf : Event → Change
 changeOf (Initiate r a b) = Row r (stored (initiatorOpened a b))

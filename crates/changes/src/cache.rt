@@ -7,7 +7,7 @@ use replay::entry::Entry;
 use replay::entry::Purge;
 ghost use mathlib.Core.Path.{_≡_};
 ghost use Prim.Native.Nat.{_≤_};
-ghost use Rattle.effects.specs.Cache.{cacheOf, EntryRoom};
+ghost use Rattle.changes.specs.Cache.{cacheOf, EntryRoom};
 
 // The cache after an event: step 5 remembers an entry behind the others, step 8 forgets.
 pub fn cache_after(h: Realm, cache: [Entry; 16], event: Event) -> Swept

@@ -6,7 +6,7 @@ use exchange::run::Stage;
 use runs::row::set_run;
 ghost use mathlib.Core.Path.{_≡_};
 ghost use Rattle.runs.specs.Runs.{Full};
-ghost use Rattle.effects.specs.Row.{changeOf, ChangeFits, changed};
+ghost use Rattle.changes.specs.Row.{changeOf, ChangeFits, changed};
 
 pub enum Change {
     Row { r: u8, row: Row },

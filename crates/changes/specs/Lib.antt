@@ -1,0 +1,4 @@
+pub mod Row
+pub mod Cache
+pub mod Sends
+pub mod Laws
