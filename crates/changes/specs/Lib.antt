@@ -1,3 +1,4 @@
+pub mod Promises
 pub mod Row
 pub mod Cache
 pub mod Sends

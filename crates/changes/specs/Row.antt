@@ -5,10 +5,16 @@ use mathlib.Core.List.{List}
 use Rattle.exchange.specs.declared.event.Event.{Event}
 use Rattle.exchange.specs.declared.event.Event.the-variants.{Initiate, Respond, Issue, Authenticate, Accept, Finish, Tick, Purge, Leak}
 use Rattle.exchange.specs.declared.event.Event.the-variants as events
+use Rattle.exchange.specs.declared.run.Role.{Role}
+use Rattle.exchange.specs.declared.run.Stage.{Stage}
 use Rattle.exchange.specs.Log.{stored, initiatorOpened, initiatorAuthenticated, initiatorDone, responderOpened, responderDone, serverDone}
 use Rattle.runs.specs.Runs.{setRun}
 use Rattle.changes.specs.declared.row.Change.{Change}
 use Rattle.changes.specs.declared.row.Change.the-variants.{Row, Nothing}
+
+-- run r becomes a row with these fields
+abbrev pub changeTo : ℕ → Role → Stage → (a b k ts ta : ℕ) → Change
+changeTo r role stage a b k ts ta = Row r (record { role = role; stage = stage; a = a; b = b; k = k; ts = ts; ta = ta })
 
 abbrev pub changeOf : Event → Change
 changeOf (Initiate r a b) = Row r (stored (initiatorOpened a b))

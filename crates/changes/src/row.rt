@@ -6,11 +6,27 @@ use exchange::run::Stage;
 use runs::row::set_run;
 ghost use mathlib.Core.Path.{_≡_};
 ghost use Rattle.runs.specs.Runs.{Full};
-ghost use Rattle.changes.specs.Row.{changeOf, ChangeFits, changed};
+ghost use Rattle.changes.specs.Row.{changeTo, changeOf, ChangeFits, changed};
 
 pub enum Change {
     Row { r: u8, row: Row },
     Nothing,
+}
+
+// Run r becomes a row with these fields; what is not yet taken of k, ts and ta is 0.
+fn change_to(r: u8, role: Role, stage: Stage, a: u8, b: u8, k: u8, ts: u32, ta: u32) -> Change
+    ensures { λ x. ⌜ x ≡ changeTo r role stage a b k ts ta ⌝ }
+{
+    let row = Row {
+        role,
+        stage,
+        a,
+        b,
+        k,
+        ts,
+        ta,
+    };
+    Change::Row { r, row }
 }
 
 // The row of an event, and the run that it is.
@@ -18,82 +34,40 @@ fn change_of(event: Event) -> Change
     ensures { λ x. ⌜ x ≡ changeOf event ⌝ }
 {
     match event {
-        Event::Initiate { r, a, b } => {
-            let row = Row {
-                role: Role::Initiator,
-                stage: Stage::Opened,
-                a,
-                b,
-                k: 0,
-                ts: 0,
-                ta: 0,
-            };
-            Change::Row { r, row }
-        }
-        Event::Respond { r, a, b } => {
-            let row = Row {
-                role: Role::Responder,
-                stage: Stage::Opened,
-                a,
-                b,
-                k: 0,
-                ts: 0,
-                ta: 0,
-            };
-            Change::Row { r, row }
-        }
-        Event::Issue { r, a, b, ts, .. } => {
-            let row = Row {
-                role: Role::Server,
-                stage: Stage::Done,
-                a,
-                b,
-                k: r,
-                ts,
-                ta: 0,
-            };
-            Change::Row { r, row }
-        }
-        Event::Authenticate { r, a, b, k, ts, ta } => {
-            let row = Row {
-                role: Role::Initiator,
-                stage: Stage::Authenticated,
-                a,
-                b,
-                k,
-                ts,
-                ta,
-            };
-            Change::Row { r, row }
-        }
-        Event::Accept { r, a, b, k, ts, ta } => {
-            let row = Row {
-                role: Role::Responder,
-                stage: Stage::Done,
-                a,
-                b,
-                k,
-                ts,
-                ta,
-            };
-            Change::Row { r, row }
-        }
-        Event::Finish { r, a, b, k, ts, ta } => {
-            let row = Row {
-                role: Role::Initiator,
-                stage: Stage::Done,
-                a,
-                b,
-                k,
-                ts,
-                ta,
-            };
-            Change::Row { r, row }
-        }
-        Event::Tick { .. } => Change::Nothing,
-        Event::Purge { .. } => Change::Nothing,
-        Event::Leak { .. } => Change::Nothing,
-        Event::Nothing => Change::Nothing,
+        Event::Initiate { r, a, b } => change_to(r, Role::Initiator, Stage::Opened, a, b, 0, 0, 0),
+        Event::Respond { r, a, b } => change_to(r, Role::Responder, Stage::Opened, a, b, 0, 0, 0),
+        Event::Issue { r, a, b, ts, .. } => change_to(r, Role::Server, Stage::Done, a, b, r, ts, 0),
+        Event::Authenticate { r, a, b, k, ts, ta } => change_to(
+            r,
+            Role::Initiator,
+            Stage::Authenticated,
+            a,
+            b,
+            k,
+            ts,
+            ta,
+        ),
+        Event::Accept { r, a, b, k, ts, ta } => change_to(
+            r,
+            Role::Responder,
+            Stage::Done,
+            a,
+            b,
+            k,
+            ts,
+            ta,
+        ),
+        Event::Finish { r, a, b, k, ts, ta } => change_to(
+            r,
+            Role::Initiator,
+            Stage::Done,
+            a,
+            b,
+            k,
+            ts,
+            ta,
+        ),
+        _ => Change::Nothing,
     }
 }
 

@@ -1,6 +1,5 @@
--- What an event does to the tables. The contract of `apply` gives the answer and every table afterwards. Reading order of the
--- definitions: Apply (the whole effect), Row (the run's row), Cache (the replay cache), Sends (when messages can be sent); the
--- messages themselves are the exchange's `sends`. Below is when an event is written and when it is refused.
+-- An event's whole effect. The contract of `apply` gives the answer and every table afterwards, by the definitions in Apply;
+-- what changes in each table is the crate changes'. Below is when an event is written and when it is refused.
 -- Assumes nothing.
 use Prim.Native.Nat.{_<_, _≤_}
 use mathlib.Core.List.{List}
