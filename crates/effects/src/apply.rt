@@ -11,7 +11,7 @@ ghost use mathlib.Core.Path.{_≡_};
 ghost use Prim.Native.Nat.{_≤_};
 ghost use Rattle.exchange.specs.Log.{clockAfter};
 ghost use Rattle.realm.specs.Tables.{tables};
-ghost use Rattle.effects.specs.Apply.{runCount, answerOf, Ready, after, applied};
+ghost use Rattle.effects.specs.Apply.{runCount, answerOf, realmAfter, Ready, after, applied};
 
 // A realm and its cache after a call, and the answer.
 pub struct After {
@@ -24,35 +24,19 @@ fn clock_after(event: Event, clock: u32) -> u32
     ensures { λ r. ⌜ r ≡ clockAfter event clock ⌝ }
 {
     match event {
-        Event::Initiate { .. } => clock,
-        Event::Respond { .. } => clock,
-        Event::Issue { .. } => clock,
-        Event::Authenticate { .. } => clock,
-        Event::Accept { .. } => clock,
-        Event::Finish { .. } => clock,
         Event::Tick { t } => t,
-        Event::Purge { .. } => clock,
-        Event::Leak { .. } => clock,
-        Event::Nothing => clock,
+        _ => clock,
     }
 }
 
-// How many runs there are after an event.
+// How many runs there are after an event: steps 1 to 3 open one.
 fn runs_after(event: Event, runs: usize) -> usize
     requires { ⌜ runs ≤ 64 ⌝ }
     ensures { λ r. ⌜ r ≡ runCount event runs ⌝ }
 {
     match event {
-        Event::Initiate { .. } => runs + 1,
-        Event::Respond { .. } => runs + 1,
-        Event::Issue { .. } => runs + 1,
-        Event::Authenticate { .. } => runs,
-        Event::Accept { .. } => runs,
-        Event::Finish { .. } => runs,
-        Event::Tick { .. } => runs,
-        Event::Purge { .. } => runs,
-        Event::Leak { .. } => runs,
-        Event::Nothing => runs,
+        Event::Initiate { .. } | Event::Respond { .. } | Event::Issue { .. } => runs + 1,
+        _ => runs,
     }
 }
 
@@ -61,16 +45,31 @@ fn answer_of(event: Event) -> Answer
     ensures { λ x. ⌜ x ≡ answerOf event ⌝ }
 {
     match event {
-        Event::Initiate { r, .. } => Answer::OkRun(r),
-        Event::Respond { r, .. } => Answer::OkRun(r),
-        Event::Issue { r, .. } => Answer::OkRun(r),
-        Event::Authenticate { r, .. } => Answer::OkRun(r),
-        Event::Accept { r, .. } => Answer::OkRun(r),
-        Event::Finish { r, .. } => Answer::OkRun(r),
-        Event::Tick { .. } => Answer::Ok,
-        Event::Purge { .. } => Answer::Ok,
-        Event::Leak { r } => Answer::OkRun(r),
-        Event::Nothing => Answer::Ok,
+        Event::Initiate { r, .. }
+        | Event::Respond { r, .. }
+        | Event::Issue { r, .. }
+        | Event::Authenticate { r, .. }
+        | Event::Accept { r, .. }
+        | Event::Finish { r, .. }
+        | Event::Leak { r } => Answer::OkRun(r),
+        _ => Answer::Ok,
+    }
+}
+
+// The realm after an event, with the counts that its messages and its entry left.
+fn realm_after(h: Realm, event: Event, terms: usize, entries: usize) -> Realm
+    requires { ⌜ h .runs ≤ 64 ⌝ }
+    ensures { λ r. ⌜ r ≡ realmAfter h event terms entries ⌝ }
+{
+    Realm {
+        n: h.n,
+        flags: h.flags,
+        ls: h.ls,
+        la: h.la,
+        clock: clock_after(event, h.clock),
+        terms,
+        runs: runs_after(event, h.runs),
+        entries,
     }
 }
 
@@ -96,18 +95,8 @@ pub fn apply(
             write_row(runs, event);
             let swept = cache_after(h, cache, event);
             let places = swept.places;
-            let realm = Realm {
-                n: h.n,
-                flags: h.flags,
-                ls: h.ls,
-                la: h.la,
-                clock: clock_after(event, h.clock),
-                terms: count,
-                runs: runs_after(event, h.runs),
-                entries: swept.count,
-            };
             After {
-                realm,
+                realm: realm_after(h, event, count, swept.count),
                 cache: places,
                 answer: answer_of(event),
             }

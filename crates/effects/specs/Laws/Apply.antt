@@ -11,10 +11,11 @@ use Rattle.sending.specs.Send.{Sending, sent, refused, outcome, sendOf}
 use Rattle.exchange.specs.declared.call.Answer.{Answer}
 use Rattle.exchange.specs.declared.call.Answer.the-variants as answers
 use Rattle.exchange.specs.declared.event.Event.{Event}
-use Rattle.exchange.specs.Log.{sends, clockAfter}
+use Rattle.exchange.specs.Log.{sends}
 use Rattle.replay.specs.declared.cache.Swept.{Swept}
+use Rattle.realm.specs.declared.header.Realm.{Realm}
 use Rattle.realm.specs.Tables.{Tables, tables}
-use Rattle.effects.specs.Apply.{answerOf, runCount, written, applied, Ready}
+use Rattle.effects.specs.Apply.{answerOf, realmAfter, written, applied, Ready}
 use Rattle.changes.specs.Cache.{cacheOf}
 use Rattle.changes.specs.Row.{changeOf, changed}
 use Rattle.changes.specs.Sends.{Sends}
@@ -42,22 +43,10 @@ module _ (t : Tables) (e : Event) where
 
     -- they fit, and the rest is written
     module _ {count : ℕ} (h : s ≡ Count count) {rs : List ℕ} (rows : rs ≡ changed (changeOf e) (t .runs)) {swept : Swept}
-        (kept : swept ≡ cacheOf (t .realm) (t .cache) e) {clock : ℕ} (ticked : clock ≡ clockAfter e (t .realm .clock)) {runs : ℕ}
-        (opened : runs ≡ runCount e (t .realm .runs)) {answer : Answer} (told : answer ≡ answerOf e) where
-      pub sent-applied : record {
-        answer = answer;
-        tables = tables (record {
-          n = t .realm .n;
-          flags = t .realm .flags;
-          ls = t .realm .ls;
-          la = t .realm .la;
-          clock = clock;
-          terms = count;
-          runs = runs;
-          entries = swept .count;
-        }) ts rs ws (swept .places);
-      } ≡ applied t e
+        (kept : swept ≡ cacheOf (t .realm) (t .cache) e) {realm : Realm} (moved : realm ≡ realmAfter (t .realm) e count (swept .count))
+        {answer : Answer} (told : answer ≡ answerOf e) where
+      pub sent-applied : record { answer = answer; tables = tables realm ts rs ws (swept .places) } ≡ applied t e
       unfolding applied
       sent-applied =
           let out : sent count ts ws ≡ sentOf = ap (λ (x : Sent). outcome x ts ws) (sym h) ∙ o in
-          rw (← out, ← kept, rows, ticked, opened, told)
+          rw (← out, ← kept, rows, moved, told)

@@ -24,11 +24,8 @@ write-row-requires c κs = search needs
 cache-after-requires : tie.Need-cache-after-requires
 cache-after-requires c κs = search needs
 
-clock-after-requires : tie.Need-clock-after-requires
-clock-after-requires c κs = search needs
-
-runs-after-requires : tie.Need-runs-after-requires
-runs-after-requires c κs = search needs
+realm-after-requires : tie.Need-realm-after-requires
+realm-after-requires c κs = search needs
 
 answer-of-requires : tie.Need-answer-of-requires
 answer-of-requires c κs = search needs
@@ -56,12 +53,12 @@ same-length-5 c = search needs
 
 returns-2 : tie.Need-returns-2
 returns-2 c =
-    let w = c .before .before .before .before .before .before .before in
+    let w = c .before .before .before .before .before .before in
     let n = w .before .before .before in
     let x = n .before .before .before .before .before .before in
     let s = x .before .before .before .before .before .before in
-    sent-applied (lent s) (s .args .event) (x .send-event .ensures) (n .count .given .1) (w .write-row .ensures) (c .before .before .before .before .cache-after .ensures)
-    (c .before .before .clock-after .ensures) (c .before .runs-after .ensures) (c .answer-of .ensures)
+    sent-applied (lent s) (s .args .event) (x .send-event .ensures) (n .count .given .1) (w .write-row .ensures) (c .before .before .before .cache-after .ensures)
+    (c .before .realm-after .ensures) (c .answer-of .ensures)
 
 pub apply-spec : {M : Type 1} → statement M
 apply-spec =
@@ -72,8 +69,7 @@ apply-spec =
     enum-known-count
     write-row-requires
     cache-after-requires
-    clock-after-requires
-    runs-after-requires
+    realm-after-requires
     answer-of-requires
     same-length
     same-length-2

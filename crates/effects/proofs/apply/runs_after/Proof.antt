@@ -1,101 +1,62 @@
--- `effects::apply::runs_after` meets its contract: each arm by the event that it is. Assumes nothing.
+-- `effects::apply::runs_after` meets its contract: each arm by the events that it is for. Assumes nothing.
+use mathlib.Core.List.{List, [], _∷_}
+use mathlib.Core.Path.{_≡_, refl}
+use Prim.Native.Nat.{ℕ, _+_}
+use denote.Enum.Declared.{tagOf}
+use types.Run.{OneOf, miss}
 use borrow.Author.Needs.{needs}
+use Rattle.exchange.proofs.event.Event.{the-type}
+use Rattle.exchange.specs.declared.event.Event.{Event}
+use Rattle.exchange.specs.declared.event.Event.the-variants.{Initiate, Respond, Issue, Authenticate, Accept, Finish, Tick, Purge, Leak, Nothing}
+use Rattle.effects.specs.Apply.{runCount}
 use Rattle.effects.proofs.apply.runs_after.Statement.{statement}
 use Rattle.effects.proofs.apply.runs_after.Tie as tie
 
-enum-told : tie.Need-enum-told
-enum-told c = search needs
+-- the events that open a run
+abbrev opening : List ℕ
+opening = 0 ∷ 1 ∷ 2 ∷ []
+
+more : (runs : ℕ) (e : Event) → OneOf opening (tagOf the-type e) → runs + 1 ≡ runCount e runs
+more runs (Initiate r a b) among = refl
+more runs (Respond r a b) among = refl
+more runs (Issue r a b ts n) among = refl
+more runs (Authenticate r a b k ts ta) among = absurd (miss opening 3 tt among)
+more runs (Accept r a b k ts ta) among = absurd (miss opening 4 tt among)
+more runs (Finish r a b k ts ta) among = absurd (miss opening 5 tt among)
+more runs (Tick t) among = absurd (miss opening 6 tt among)
+more runs (Purge b) among = absurd (miss opening 7 tt among)
+more runs (Leak r) among = absurd (miss opening 8 tt among)
+more runs Nothing among = absurd (miss opening 9 tt among)
+
+-- the others
+abbrev others : List ℕ
+others = 3 ∷ 4 ∷ 5 ∷ 6 ∷ 7 ∷ 8 ∷ 9 ∷ []
+
+as-many : (runs : ℕ) (e : Event) → OneOf others (tagOf the-type e) → runs ≡ runCount e runs
+as-many runs (Initiate r a b) among = absurd (miss others 0 tt among)
+as-many runs (Respond r a b) among = absurd (miss others 1 tt among)
+as-many runs (Issue r a b ts n) among = absurd (miss others 2 tt among)
+as-many runs (Authenticate r a b k ts ta) among = refl
+as-many runs (Accept r a b k ts ta) among = refl
+as-many runs (Finish r a b k ts ta) among = refl
+as-many runs (Tick t) among = refl
+as-many runs (Purge b) among = refl
+as-many runs (Leak r) among = refl
+as-many runs Nothing among = refl
 
 add-result : tie.Need-add-result
 add-result c = search needs
 
-enum-told-2 : tie.Need-enum-told-2
-enum-told-2 c = search needs
-
-add-result-2 : tie.Need-add-result-2
-add-result-2 c = search needs
-
-enum-told-3 : tie.Need-enum-told-3
-enum-told-3 c = search needs
-
-add-result-3 : tie.Need-add-result-3
-add-result-3 c = search needs
-
-enum-told-4 : tie.Need-enum-told-4
-enum-told-4 c = search needs
-
-enum-told-5 : tie.Need-enum-told-5
-enum-told-5 c = search needs
-
-enum-told-6 : tie.Need-enum-told-6
-enum-told-6 c = search needs
-
-enum-told-7 : tie.Need-enum-told-7
-enum-told-7 c = search needs
-
-enum-told-8 : tie.Need-enum-told-8
-enum-told-8 c = search needs
-
-enum-told-9 : tie.Need-enum-told-9
-enum-told-9 c = search needs
-
-enum-told-10 : tie.Need-enum-told-10
-enum-told-10 c = search needs
-
 returns : tie.Need-returns
-returns c = rw (c .enum-told .given .1)
+returns c = more (c .before .args .runs) (c .before .args .event) (c .match .keys1)
 
 returns-2 : tie.Need-returns-2
-returns-2 c = rw (c .enum-told2 .given .1)
-
-returns-3 : tie.Need-returns-3
-returns-3 c = rw (c .enum-told3 .given .1)
-
-returns-4 : tie.Need-returns-4
-returns-4 c = search needs
-
-returns-5 : tie.Need-returns-5
-returns-5 c = search needs
-
-returns-6 : tie.Need-returns-6
-returns-6 c = search needs
-
-returns-7 : tie.Need-returns-7
-returns-7 c = search needs
-
-returns-8 : tie.Need-returns-8
-returns-8 c = search needs
-
-returns-9 : tie.Need-returns-9
-returns-9 c = search needs
-
-returns-10 : tie.Need-returns-10
-returns-10 c = search needs
+returns-2 c = as-many (c .before .args .runs) (c .before .args .event) (c .match .keys2)
 
 pub runs-after-spec : {M : Type 1} → statement M
 runs-after-spec =
     tie.close
     (tie.spec
-    enum-told
     add-result
-    enum-told-2
-    add-result-2
-    enum-told-3
-    add-result-3
-    enum-told-4
-    enum-told-5
-    enum-told-6
-    enum-told-7
-    enum-told-8
-    enum-told-9
-    enum-told-10
     returns
-    returns-2
-    returns-3
-    returns-4
-    returns-5
-    returns-6
-    returns-7
-    returns-8
-    returns-9
-    returns-10)
+    returns-2)
