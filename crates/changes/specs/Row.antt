@@ -8,7 +8,7 @@ use Rattle.exchange.specs.declared.event.Event.the-variants as events
 use Rattle.exchange.specs.declared.run.Role.{Role}
 use Rattle.exchange.specs.declared.run.Stage.{Stage}
 use Rattle.exchange.specs.Log.{stored, initiatorOpened, initiatorAuthenticated, initiatorDone, responderOpened, responderDone, serverDone}
-use Rattle.runs.specs.Runs.{setRun}
+use Rattle.rows.specs.Runs.{setRun}
 use Rattle.changes.specs.declared.row.Change.{Change}
 use Rattle.changes.specs.declared.row.Change.the-variants.{Row, Nothing}
 

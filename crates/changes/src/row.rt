@@ -3,9 +3,9 @@ use exchange::event::Event;
 use exchange::run::Role;
 use exchange::run::Row;
 use exchange::run::Stage;
-use runs::row::set_run;
+use rows::set_run;
 ghost use mathlib.Core.Path.{_≡_};
-ghost use Rattle.runs.specs.Runs.{Full};
+ghost use Rattle.rows.specs.Runs.{Full};
 ghost use Rattle.changes.specs.Row.{changeTo, changeOf, ChangeFits, changed};
 
 pub enum Change {

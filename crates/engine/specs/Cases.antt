@@ -33,9 +33,9 @@ use Rattle.exchange.specs.Needs.{needTable}
 use Rattle.layers.specs.Layers.{ofKind, layer, _▸_}
 use Rattle.forms.specs.Forms.{requestIn, replyIn, confirmationIn}
 use Rattle.delivery.specs.Delivery.{ticketIn, authenticatorIn, deliveryIn}
-use Rattle.runs.specs.AllOf.{each}
+use Rattle.rows.specs.AllOf.{each}
 use Rattle.runs.specs.Lent.{rowHolds, rowsHold}
-use Rattle.runs.specs.Runs.{runAt, setRun}
+use Rattle.rows.specs.Runs.{runAt, setRun}
 use Rattle.replay.specs.Cache.{present, stays, kept, written}
 use Rattle.realm.specs.Check.{wireHolds, entriesHold, together}
 use Rattle.realm.specs.Input.{usesTable, inRange, inputRefusal}

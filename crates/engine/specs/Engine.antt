@@ -14,7 +14,7 @@ use Rattle.terms.specs.Outcome as terms
 use Rattle.terms.specs.Message.{Message}
 use Rattle.messages.specs.Listed.{addAll}
 use Rattle.messages.specs.Meanings.{meanings}
-use Rattle.runs.specs.Rows.{rowsOf}
+use Rattle.rows.specs.Rows.{rowsOf}
 use Rattle.replay.specs.Cache.{entries}
 use Rattle.sending.specs.Send.{Sending, sent, refused, sendOf}
 use Rattle.exchange.specs.declared.call.Call.{Call}

@@ -10,7 +10,7 @@ use lib.ListN.{length, getD}
 use Rattle.marks.specs.Marks.{marked}
 use Rattle.marks.specs.Within.{within, within-is, is-within}
 use Rattle.terms.specs.Valid.{holds, holds-valid, valid-holds}
-use Rattle.runs.specs.AllOf.{each, each-true, true-each, five}
+use Rattle.rows.specs.AllOf.{each, each-true, true-each, five}
 use Rattle.runs.specs.Promises.{rows-decided}
 use Rattle.terms.specs.Choice.{no-true, is-false}
 use Rattle.runs.specs.Lent.{rowsHold}

@@ -16,7 +16,7 @@ use forms::open_reply;
 use forms::open_request;
 use realm::header::Realm;
 use replay::entry::Entry;
-use runs::row::MAX_RUNS;
+use rows::MAX_RUNS;
 ghost use mathlib.Core.Path.{_≡_};
 ghost use Prim.Native.Nat.{_≤_};
 ghost use Rattle.conditions.specs.Conditions.{Delivers};

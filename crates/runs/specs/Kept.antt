@@ -9,8 +9,8 @@ use native.Mathlib.Omega.{arith}
 use lib.ListN.{length}
 use Rattle.terms.specs.Rules.{Agree}
 use Rattle.exchange.specs.declared.run.Row.{Row}
-use Rattle.runs.specs.Row.{wordsOf, Fits}
-use Rattle.runs.specs.Runs.{Full, SameRows, runAt, setRun, run-as, set-full, words-same, words-other, run-same, run-other}
+use Rattle.rows.specs.Row.{wordsOf, Fits}
+use Rattle.rows.specs.Runs.{Full, SameRows, runAt, setRun, run-as, set-full, words-same, words-other, run-same, run-other}
 use Rattle.runs.specs.Lent.{KeyStands, RunHolds, Written, RowsHold}
 
 -- an empty table

@@ -17,9 +17,9 @@ use Rattle.exchange.specs.declared.run.Stage.{Stage}
 use Rattle.exchange.specs.declared.run.Stage.the-variants.{Opened, Authenticated, Done}
 use Rattle.exchange.specs.declared.run.Row.{Row}
 use Rattle.exchange.specs.Rules.{Apart}
-use Rattle.runs.specs.AllOf.{each}
-use Rattle.runs.specs.Row.{width, isRow, wordsOf}
-use Rattle.runs.specs.Runs.{Full, wordsAt, runAt}
+use Rattle.rows.specs.AllOf.{each}
+use Rattle.rows.specs.Row.{width, isRow, wordsOf}
+use Rattle.rows.specs.Runs.{Full, wordsAt, runAt}
 
 -- ---- what it is
 

@@ -1,11 +1,11 @@
 // The check of a lent table of runs, the runs' part of refusal 10: any slices, any numbers, nothing required.
-use super::row::MAX_RUNS;
-use super::row::RUN_WORDS;
-use super::row::is_written;
-use super::row::run_at;
 use exchange::run::Role;
 use exchange::run::Row;
 use exchange::run::Stage;
+use rows::MAX_RUNS;
+use rows::RUN_WORDS;
+use rows::is_written;
+use rows::run_at;
 use terms::rules::LAST_NUMBER;
 use terms::table::Found;
 use terms::table::find;
@@ -14,7 +14,7 @@ use words::encode;
 ghost use mathlib.Core.Path.{_≡_};
 ghost use Prim.Native.Nat.{_<_, _≤_};
 ghost use lib.ListN.{length};
-ghost use Rattle.runs.specs.Runs.{Full};
+ghost use Rattle.rows.specs.Runs.{Full};
 ghost use Rattle.runs.specs.Lent.{principalsFit, hasStage, keyStands, keyHolds, runHolds, rowHolds, rowsHold};
 
 // Whether a run can have these principals: below n, neither of them the server, unequal.

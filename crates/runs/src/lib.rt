@@ -1,3 +1,2 @@
-// The table of runs: 64 rows of words, lent as one slice.
+// Which tables of runs hold together.
 pub mod lent;
-pub mod row;

@@ -22,10 +22,11 @@ use Rattle.exchange.specs.declared.event.Event.the-variants.{Initiate, Respond,
 use Rattle.exchange.specs.declared.run.Row.{Row}
 use Rattle.exchange.specs.declared.run.Role.the-variants.{Initiator, Responder, Server}
 use Rattle.exchange.specs.Log.{Run, initiatorOpened, initiatorAuthenticated, initiatorDone, responderOpened, responderDone, serverDone, stored, sends, runsAfter}
-use Rattle.runs.specs.Runs.{setRun}
-use Rattle.runs.specs.Rows.{rowsOf}
+use Rattle.rows.specs.Runs.{setRun}
+use Rattle.rows.specs.Rows.{rowsOf}
 use Rattle.runs.specs.Lent.{hasStage, PrincipalsFit, KeyStands, RunHolds, RowsHold}
-use Rattle.runs.specs.Promises.{writes, hold-set, hold-open, hold-fits}
+use Rattle.rows.specs.Promises.{writes}
+use Rattle.runs.specs.Promises.{hold-set, hold-open, hold-fits}
 use Rattle.realm.specs.Tables.{Tables, Together}
 use Rattle.changes.specs.declared.row.Change.{Change}
 use Rattle.changes.specs.declared.row.Change.the-variants as rows

@@ -3,7 +3,7 @@
 use mathlib.Core.List.{map}
 use Rattle.messages.specs.Meanings.{meanings}
 use Rattle.deduction.specs.Known.{Known}
-use Rattle.runs.specs.Rows.{rowsOf}
+use Rattle.rows.specs.Rows.{rowsOf}
 use Rattle.replay.specs.Cache.{entries}
 use Rattle.replay.specs.declared.entry.Entry as replay
 use Rattle.exchange.specs.Log.{Entry, entry}

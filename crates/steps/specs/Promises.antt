@@ -7,7 +7,7 @@ use mathlib.Core.Bool.{false}
 use mathlib.Core.Logic.{_≢_}
 use mathlib.Core.Path.{_≡_, refl, sym, subst}
 use Rattle.exchange.specs.Needs.{needOf, meets}
-use Rattle.runs.specs.Runs.{runAt}
+use Rattle.rows.specs.Runs.{runAt}
 use Rattle.realm.specs.declared.input.Step.{Step}
 use Rattle.realm.specs.Input.{inputRefusal}
 use Rattle.realm.specs.Tables.{Tables}

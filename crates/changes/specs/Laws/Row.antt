@@ -4,7 +4,7 @@ use mathlib.Core.Path.{_≡_, subst}
 use mathlib.Core.List.{List}
 use Prim.Native.Nat.{ℕ, _<_}
 use Rattle.exchange.specs.declared.run.Row as run
-use Rattle.runs.specs.Runs.{setRun}
+use Rattle.rows.specs.Runs.{setRun}
 use Rattle.changes.specs.declared.row.Change.{Change}
 use Rattle.changes.specs.declared.row.Change.the-variants.{Row}
 use Rattle.changes.specs.Row.{ChangeFits, changed}

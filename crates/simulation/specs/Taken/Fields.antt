@@ -7,7 +7,7 @@ use mathlib.Core.Bool.{Bool, true, false, not, _||_}
 use borrow.Author.Tests.{ltb-true, eqb-true}
 use lib.Dec.{ltb, eqb}
 use Rattle.terms.specs.Choice.{pick, no-true}
-use Rattle.runs.specs.AllOf.{five}
+use Rattle.rows.specs.AllOf.{five}
 use Rattle.runs.specs.Lent.{PrincipalsFit, principalsFit}
 use Rattle.runs.specs.Promises.{principals-decided}
 use Rattle.exchange.specs.declared.call.Call.{Call}

@@ -14,7 +14,7 @@ use Rattle.messages.specs.Listed.{termAt}
 use Rattle.messages.specs.Meanings.{meanings-at}
 use Rattle.replay.specs.Cache.{present, entries}
 use Rattle.runs.specs.Lent.{PrincipalsFit}
-use Rattle.runs.specs.Promises.{rows-length, rows-at}
+use Rattle.rows.specs.Promises.{rows-length, rows-at}
 use Rattle.exchange.specs.declared.call.Call.{Call}
 use Rattle.exchange.specs.declared.call.Call.the-variants.{Step}
 use Rattle.exchange.specs.declared.event.Event.{Event}

@@ -10,7 +10,7 @@ use Rattle.deduction.specs.Derives.{Derives}
 use Rattle.deduction.specs.Known.{Known}
 use Rattle.replay.specs.Cache.{present, entries}
 use Rattle.runs.specs.Lent.{PrincipalsFit}
-use Rattle.runs.specs.Runs.{runAt}
+use Rattle.rows.specs.Runs.{runAt}
 use Rattle.exchange.specs.declared.call.Call.{Call}
 use Rattle.exchange.specs.declared.call.Call.the-variants as calls
 use Rattle.exchange.specs.declared.event.Event.{Event}

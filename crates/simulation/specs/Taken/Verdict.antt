@@ -25,7 +25,7 @@ use Rattle.delivery.specs.declared.Delivery.{Delivery}
 use Rattle.delivery.specs.declared.Delivery.the-variants as deliveries
 use Rattle.replay.specs.Cache.{entries}
 use Rattle.replay.specs.declared.entry.Entry.{Entry}
-use Rattle.runs.specs.AllOf.{five}
+use Rattle.rows.specs.AllOf.{five}
 use Rattle.exchange.specs.declared.call.Call.{Call}
 use Rattle.exchange.specs.declared.call.Call.the-variants as calls
 use Rattle.exchange.specs.declared.event.Event.{Event}

@@ -15,7 +15,7 @@ use Rattle.realm.specs.declared.header.Realm.{Realm}
 use Rattle.realm.specs.declared.input.Step.{Step}
 use Rattle.realm.specs.Input.{usesOf, unusedZero, inRange, inputRefusal}
 use Rattle.realm.specs.Tables.{Tables}
-use Rattle.runs.specs.Runs.{runAt}
+use Rattle.rows.specs.Runs.{runAt}
 use Rattle.conditions.specs.Conditions.{derivableAt}
 use Rattle.receiving.specs.declared.Verdict.{Verdict}
 use Rattle.receiving.specs.declared.Verdict.the-variants.{Takes, Refused}

@@ -1,8 +1,8 @@
--- `runs::row::set_run` meets its contract: the part lent comes back as the row's words. Assumes nothing.
-use Rattle.runs.specs.Runs.{written-part}
+-- `rows::set_run` meets its contract: the part lent comes back as the row's words. Assumes nothing.
+use Rattle.rows.specs.Runs.{written-part}
 use borrow.Author.Needs.{needs}
-use Rattle.runs.proofs.row.set_run.Statement.{statement}
-use Rattle.runs.proofs.row.set_run.Tie as tie
+use Rattle.rows.proofs.set_run.Statement.{statement}
+use Rattle.rows.proofs.set_run.Tie as tie
 
 mul-at : tie.Need-mul-at
 mul-at c = search needs

@@ -1,5 +1,5 @@
-// The rows of the table of runs. A row is seven words: role, stage, a, b, k, ts, ta; row r starts at word 7 * r. Nothing else knows
-// how a row lies in the table.
+// The rows of the table of runs, lent as one slice. A row is seven words: role, stage, a, b, k, ts, ta; row r starts at word
+// 7 * r. Nothing else knows how a row lies in the table.
 use exchange::run::Role;
 use exchange::run::Row;
 use exchange::run::Stage;
@@ -7,8 +7,8 @@ ghost use mathlib.Core.Path.{_≡_};
 ghost use Prim.Native.Nat.{_<_};
 ghost use lib.ListN.{length};
 ghost use Rattle.exchange.specs.Needs.{roleNumber, stageNumber};
-ghost use Rattle.runs.specs.Row.{width, roleOf, stageOf, rowOf, wordsOf, isRow};
-ghost use Rattle.runs.specs.Runs.{Full, wordsAt, runAt, setRun};
+ghost use Rattle.rows.specs.Row.{width, roleOf, stageOf, rowOf, wordsOf, isRow};
+ghost use Rattle.rows.specs.Runs.{Full, wordsAt, runAt, setRun};
 
 // Words in a row.
 const ROW_WORDS: usize = 7;

@@ -1,11 +1,11 @@
--- `runs::row::run_at` meets its contract: the row's words, decoded. Assumes nothing.
+-- `rows::run_at` meets its contract: the row's words, decoded. Assumes nothing.
 use lib.ListN.{length}
 use mathlib.Core.Path.{_∙_, ap}
-use Rattle.runs.specs.Row.{rowOf}
-use Rattle.runs.specs.Runs.{words-length, runAt}
+use Rattle.rows.specs.Row.{rowOf}
+use Rattle.rows.specs.Runs.{words-length, runAt}
 use borrow.Author.Needs.{needs}
-use Rattle.runs.proofs.row.run_at.Statement.{statement}
-use Rattle.runs.proofs.row.run_at.Tie as tie
+use Rattle.rows.proofs.run_at.Statement.{statement}
+use Rattle.rows.proofs.run_at.Tie as tie
 
 words-at-requires : tie.Need-words-at-requires
 words-at-requires c κs = search needs

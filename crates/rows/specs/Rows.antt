@@ -10,8 +10,8 @@ use native.Mathlib.Omega.{arith}
 use lib.ListN.{length, getElem?, set, length-append}
 use lib.Seq.{set-at, set-append-left}
 use Rattle.exchange.specs.declared.run.Row.{Row}
-use Rattle.runs.specs.Row.{Fits}
-use Rattle.runs.specs.Runs.{Full, SameRows, runAt, setRun, run-as, run-same, run-other, same-past}
+use Rattle.rows.specs.Row.{Fits}
+use Rattle.rows.specs.Runs.{Full, SameRows, runAt, setRun, run-as, run-same, run-other, same-past}
 
 -- ---- definitions
 

@@ -1,11 +1,11 @@
--- `runs::row::is_written` meets its contract: the row's words, tested. Assumes nothing.
+-- `rows::is_written` meets its contract: the row's words, tested. Assumes nothing.
 use lib.ListN.{length}
 use mathlib.Core.Path.{_∙_, ap}
-use Rattle.runs.specs.Row.{isRow}
-use Rattle.runs.specs.Runs.{words-length}
+use Rattle.rows.specs.Row.{isRow}
+use Rattle.rows.specs.Runs.{words-length}
 use borrow.Author.Needs.{needs}
-use Rattle.runs.proofs.row.is_written.Statement.{statement}
-use Rattle.runs.proofs.row.is_written.Tie as tie
+use Rattle.rows.proofs.is_written.Statement.{statement}
+use Rattle.rows.proofs.is_written.Tie as tie
 
 words-at-requires : tie.Need-words-at-requires
 words-at-requires c κs = search needs

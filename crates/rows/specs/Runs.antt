@@ -10,7 +10,7 @@ use borrow.Rule.Slice.PartMut.{putMid}
 use lib.ListN.{length, take, drop, length-append, length-drop, take-append-drop}
 use lib.Seq.{length-take-le, take-at, drop-at, drop-drop, take-append-le, drop-append-le}
 use Rattle.exchange.specs.declared.run.Row.{Row}
-use Rattle.runs.specs.Row.{width, rowOf, wordsOf, Fits, row-fits, row-back}
+use Rattle.rows.specs.Row.{width, rowOf, wordsOf, Fits, row-fits, row-back}
 
 -- ---- definitions
 

@@ -1,8 +1,8 @@
--- `runs::row::words_at` meets its contract: the part lent is the row's words. Assumes nothing.
-use Rattle.runs.specs.Runs.{words-part}
+-- `rows::words_at` meets its contract: the part lent is the row's words. Assumes nothing.
+use Rattle.rows.specs.Runs.{words-part}
 use borrow.Author.Needs.{needs}
-use Rattle.runs.proofs.row.words_at.Statement.{statement}
-use Rattle.runs.proofs.row.words_at.Tie as tie
+use Rattle.rows.proofs.words_at.Statement.{statement}
+use Rattle.rows.proofs.words_at.Tie as tie
 
 mul-at : tie.Need-mul-at
 mul-at c = search needs

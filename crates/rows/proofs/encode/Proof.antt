@@ -1,10 +1,10 @@
--- `runs::row::encode` meets its contract: the seven stores fill the row's place. Assumes nothing.
-use Rattle.runs.specs.Row.{words-set}
+-- `rows::encode` meets its contract: the seven stores fill the row's place. Assumes nothing.
+use Rattle.rows.specs.Row.{words-set}
 use native.Mathlib.Omega.{arith}
 use lib.ListN.{length-set}
 use borrow.Author.Needs.{needs}
-use Rattle.runs.proofs.row.encode.Statement.{statement}
-use Rattle.runs.proofs.row.encode.Tie as tie
+use Rattle.rows.proofs.encode.Statement.{statement}
+use Rattle.rows.proofs.encode.Tie as tie
 
 role-word-requires : tie.Need-role-word-requires
 role-word-requires c κs = search needs

@@ -1,8 +1,8 @@
--- `runs::row::stage_of` meets its contract: number by number. Assumes nothing.
-use Rattle.runs.specs.Row.{named-third}
+-- `rows::stage_of` meets its contract: number by number. Assumes nothing.
+use Rattle.rows.specs.Row.{named-third}
 use borrow.Author.Needs.{needs}
-use Rattle.runs.proofs.row.stage_of.Statement.{statement}
-use Rattle.runs.proofs.row.stage_of.Tie as tie
+use Rattle.rows.proofs.stage_of.Statement.{statement}
+use Rattle.rows.proofs.stage_of.Tie as tie
 
 returns : tie.Need-returns
 returns c = search needs

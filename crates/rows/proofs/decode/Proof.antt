@@ -1,7 +1,7 @@
--- `runs::row::decode` meets its contract: by the contracts of the two calls. Assumes nothing.
+-- `rows::decode` meets its contract: by the contracts of the two calls. Assumes nothing.
 use borrow.Author.Needs.{needs}
-use Rattle.runs.proofs.row.decode.Statement.{statement}
-use Rattle.runs.proofs.row.decode.Tie as tie
+use Rattle.rows.proofs.decode.Statement.{statement}
+use Rattle.rows.proofs.decode.Tie as tie
 
 shared-slice-read-role-of : tie.Need-shared-slice-read-role-of
 shared-slice-read-role-of c = search needs

@@ -1,0 +1,5 @@
+pub mod Promises
+pub mod AllOf
+pub mod Row
+pub mod Runs
+pub mod Rows
