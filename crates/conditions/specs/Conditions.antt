@@ -7,7 +7,7 @@ use lib.Dec.{ltb, eqb}
 use Rattle.marks.specs.Marks.{Words}
 use Rattle.terms.specs.Choice.{pick}
 use Rattle.terms.specs.Valid.{Valid}
-use Rattle.deduction.specs.Test.{derivableOf}
+use Rattle.synthesis.specs.Test.{derivableOf}
 use Rattle.replay.specs.Cache.{present, entries}
 use Rattle.replay.specs.declared.entry.Entry.{Entry}
 use Rattle.realm.specs.declared.header.Realm.{Realm}

@@ -1,12 +1,12 @@
 // The conditions that steps share: whether the intruder can deliver a message, lives, and the replay cache.
-use deduction::compose::derivable;
-use deduction::known::Principals;
+use deduction::Principals;
 use realm::header::Realm;
 use replay::cache::find;
 use replay::entry::Entry;
 use replay::entry::PLACES;
 use replay::entry::REFUSE_CACHE_FULL;
 use replay::entry::REFUSE_REPLAY;
+use synthesis::compose::derivable;
 ghost use mathlib.Core.Path.{_≡_};
 ghost use Prim.Native.Nat.{_≤_};
 ghost use Rattle.conditions.specs.Conditions.{Delivers, derivableAt, ticketLives, authenticatorLives, admission};

@@ -15,7 +15,7 @@ use Rattle.terms.specs.Meaning.{messageOf, messageAt, message-at, key-at, PairA
 use Rattle.terms.specs.Message.{Key, Message, key, pair, encrypted}
 use Rattle.terms.specs.Number.{messages-once}
 use Rattle.terms.specs.Rules.{termAt, isKey, Fields}
-use Rattle.terms.specs.Valid.{Valid, fields-at}
+use Rattle.terms.specs.Valid.{Valid, fields-at, fields-of}
 use Rattle.deduction.specs.Derives.{Derives}
 use Rattle.deduction.specs.Public.{publicOf, free-public}
 use Rattle.deduction.specs.Synth.{Synth, derives-in}
@@ -29,11 +29,21 @@ pub record Known (ts : List ℕ) (count : ℕ) (ws : List ℕ) (m : Message) : T
   pub mark : marked ws at ≡ true
   pub is : messageAt ts at ≡ m
 
+-- "the intruder can build m": term t's message, where the set ws is on the wire
+abbrev pub Derivable : (n flags : ℕ) (ts : List ℕ) (count : ℕ) (ws : List ℕ) (t : ℕ) → Type 0
+Derivable n flags ts count ws t = Derives n flags (Known ts count ws) (messageAt ts t)
+
 -- a marked pair's halves are marked, and a marked encryption's body where the key is marked or public
 pub record Saturated (flags : ℕ) (ts : List ℕ) (count : ℕ) (ws : List ℕ) : Type 0 where
   pub halves : (i l r : ℕ) → i < count → marked ws i ≡ true → termAt ts i ≡ Pair l r → (marked ws l ≡ true) × (marked ws r ≡ true)
   pub bodies : (i b k : ℕ) → i < count → marked ws i ≡ true → termAt ts i ≡ Encrypted b k
       → (marked ws k ≡ true) ⊎ (publicOf flags (termAt ts k) ≡ true) → marked ws b ≡ true
+
+-- ws′ holds the terms of ws and nothing that cannot be derived from them, and is saturated
+pub record Filled (n flags : ℕ) (ts : List ℕ) (count : ℕ) (ws ws′ : List ℕ) : Type 0 where
+  pub holds : (k : ℕ) → k < count → marked ws k ≡ true → marked ws′ k ≡ true
+  pub sound : (k : ℕ) → k < count → marked ws′ k ≡ true → Derivable n flags ts count ws k
+  pub full : Saturated flags ts count ws′
 
 -- ---- a key that can be put together is known or public
 
@@ -65,7 +75,7 @@ module _ (flags : ℕ) (ws : List ℕ) {n : ℕ} {ts : List ℕ} {count : ℕ} (
     known-halves {a} {b} k =
         let p : PairAt (messageAt ts) a b (termAt ts (k .at)) =
         pair-inv (messageAt ts) (termAt ts (k .at)) (sym (message-at (v .terms) (k .at) (k .below)) ∙ k .is) in
-        let f : Fields n ts (k .at) (Pair (p .0) (p .1)) = subst (Fields n ts (k .at)) (p .2) (fields-at (v .terms) (k .at) (k .below)) in
+        let f = fields-of (v .terms) (k .at) (k .below) (p .2) in
         let m = sat .halves (k .at) (p .0) (p .1) (k .below) (k .mark) (p .2) in (
           record { at = p .0; below = omega (arith, k .below, f .0); mark = m .0; is = p .3 },
           record { at = p .1; below = omega (arith, k .below, f .1); mark = m .1; is = p .4 },
@@ -75,7 +85,7 @@ module _ (flags : ℕ) (ws : List ℕ) {n : ℕ} {ts : List ℕ} {count : ℕ} (
     known-body {m} {k} w y =
         let p : EncryptedAt (messageAt ts) m k (termAt ts (w .at)) =
         encrypted-inv (messageAt ts) (termAt ts (w .at)) (sym (message-at (v .terms) (w .at) (w .below)) ∙ w .is) in
-        let f : Fields n ts (w .at) (Encrypted (p .0) (p .1)) = subst (Fields n ts (w .at)) (p .2) (fields-at (v .terms) (w .at) (w .below)) in
+        let f = fields-of (v .terms) (w .at) (w .below) (p .2) in
         let lt : p .1 < count = omega (arith, w .below, f .1) in
         let same : messageAt ts (p .1) ≡ key k = key-at (v .terms) (p .1) lt (f .2) ∙ ap key (p .4) in
         let o = key-open (p .1) lt (f .2) (subst (Synth n flags (Known ts count ws)) (sym same) y) in

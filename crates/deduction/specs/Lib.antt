@@ -4,10 +4,5 @@ pub mod Secrecy
 pub mod Public
 pub mod Synth
 pub mod Known
-pub mod Sweep
-pub mod Saturate
-pub mod Compose
-pub mod Derivable
-pub mod Test
-pub mod Lent
+pub mod Opens
 pub mod Cases

@@ -1,9 +1,9 @@
 // What the intruder can derive: document 01's cases E, G, H and I, the faults under "Where the sheet went astray" that
 // concern the intruder, and every refusal of can_derive. One line for each question, with the answer.
-use deduction::known::Principals;
-use deduction::lent::Answer;
-use deduction::lent::can_derive;
+use deduction::Principals;
 use marks::with;
+use synthesis::lent::Answer;
+use synthesis::lent::can_derive;
 use terms::lent::add_term;
 use terms::table::Added;
 use words::Term;

@@ -22,8 +22,8 @@ use Rattle.terms.specs.Rules.{refusalOf}
 use Rattle.terms.specs.Table.{findOf}
 use Rattle.terms.specs.Valid.{stands, allStand, holds}
 use Rattle.messages.specs.Entered.{withWord, entered}
-use Rattle.deduction.specs.Sweep.{visitOf, sweepOf}
-use Rattle.deduction.specs.Test.{saturateOf, composesOf, derivableOf}
+use Rattle.synthesis.specs.Sweep.{visitOf, sweepOf}
+use Rattle.synthesis.specs.Test.{saturateOf, composesOf, derivableOf}
 use Rattle.sending.specs.Send.{sendOf}
 use Rattle.exchange.specs.declared.call.Answer.{Answer}
 use Rattle.exchange.specs.declared.call.Answer.the-variants.{Number, OkRun, Ok, Refused}

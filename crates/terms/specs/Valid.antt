@@ -2,7 +2,7 @@
 -- full number of places, a count over its limit, a term that breaks the term rules, 5 or 6 or repeats").
 -- `Valid` says what it is; `holds` is the same as a test that computes, which the promises of the public calls cite.
 -- Assumes nothing.
-use mathlib.Core.Path.{_≡_, refl, sym, ap, _∙_}
+use mathlib.Core.Path.{_≡_, refl, sym, ap, _∙_, subst}
 use mathlib.Core.Bool.{Bool, true, false}
 use mathlib.Core.List.{List}
 use Prim.Native.Nat.{ℕ, zero, suc, _<_, _≤_}
@@ -11,6 +11,7 @@ use native.Mathlib.Omega.{arith}
 use borrow.Author.Tests.{eqb-true, leb-true, eq-eqb, le-leb}
 use lib.Dec.{leb, eqb}
 use lib.ListN.{length, getD}
+use Rattle.words.specs.declared.Term.{Term}
 use Rattle.terms.specs.declared.table.Found.{Found}
 use Rattle.terms.specs.declared.table.Found.the-variants.{At, Nothing}
 use Rattle.terms.specs.Choice.{both, both-true, true-both, no-true}
@@ -129,6 +130,9 @@ passed-at {n} {ts} v i h = passed n ts i (getD ts i 0) (v .fine i h)
 
 pub fields-at : {n : ℕ} {ts : List ℕ} {count : ℕ} → Terms n ts count → (i : ℕ) → i < count → Fields n ts i (termAt ts i)
 fields-at {n} {ts} v i h = fields n ts i (termAt ts i) (passed-at v i h .fields)
+
+pub fields-of : {n : ℕ} {ts : List ℕ} {count : ℕ} → Terms n ts count → (i : ℕ) → i < count → {t : Term} → termAt ts i ≡ t → Fields n ts i t
+fields-of {n} {ts} v i h e = subst (Fields n ts i) e (fields-at v i h)
 
 -- ---- a table with the same words, and one with a word more
 

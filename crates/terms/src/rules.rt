@@ -21,7 +21,7 @@ pub const REFUSE_FULL: u8 = 20;
 pub const LAST_NUMBER: u16 = 95;
 
 // Whether a term can be the key of an encryption.
-fn is_key(t: Term) -> bool
+pub fn is_key(t: Term) -> bool
     ensures { λ r. ⌜ r ≡ isKey t ⌝ }
 {
     match t {

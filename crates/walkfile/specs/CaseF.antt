@@ -13,8 +13,8 @@ use Rattle.terms.specs.Number.{place, wordIn}
 use Rattle.terms.specs.Rules.{refusalOf}
 use Rattle.terms.specs.Table.{findOf}
 use Rattle.messages.specs.Entered.{withWord, entered}
-use Rattle.deduction.specs.Sweep.{visitOf, sweepOf}
-use Rattle.deduction.specs.Test.{saturateOf, composesOf, derivableOf}
+use Rattle.synthesis.specs.Sweep.{visitOf, sweepOf}
+use Rattle.synthesis.specs.Test.{saturateOf, composesOf, derivableOf}
 use Rattle.sending.specs.Send.{sendOf}
 use Rattle.exchange.specs.Needs.{needTable}
 use Rattle.layers.specs.Layers.{ofKind, layer, _▸_}

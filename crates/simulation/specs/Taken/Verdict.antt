@@ -10,7 +10,7 @@ use Rattle.terms.specs.Meaning.{messageAt}
 use Rattle.terms.specs.Message.{Message, pair}
 use Rattle.deduction.specs.Derives.{Derives}
 use Rattle.deduction.specs.Known.{Known}
-use Rattle.deduction.specs.Promises.{function-exact}
+use Rattle.synthesis.specs.Promises.{function-exact}
 use Rattle.forms.specs.Forms.{requestIn, replyIn, confirmationIn}
 use Rattle.forms.specs.Promises.{is-request, is-reply, is-confirmation}
 use Rattle.forms.specs.declared.Confirmation.{Confirmation}

@@ -1,0 +1,236 @@
+-- What a found term gives: a pair its halves, an encryption its body where the key has been found or is public, and a key the
+-- bodies of the encryptions under it that have been found. Nothing becomes known that cannot be derived.
+-- Assumes nothing.
+use mathlib.Core.Path.{_≡_, refl, sym, ap, _∙_, subst}
+use mathlib.Core.Logic.{_⊎_, inl, inr, ⊎-elim}
+use mathlib.Core.Bool.{Bool, true, false}
+use mathlib.Core.List.{List}
+use Prim.Native.Nat.{ℕ, zero, suc, _<_, _≤_}
+use native.Mathlib.Decide.{ℕ-discrete}
+use native.Mathlib.Nat.{le-refl}
+use native.Mathlib.Omega.{arith}
+use borrow.Author.Tests.{eqb-true, eq-eqb}
+use lib.Dec.{eqb}
+use lib.ListN.{getD}
+use Rattle.marks.specs.Marks.{marked}
+use Rattle.words.specs.declared.Term.{Term}
+use Rattle.words.specs.declared.Term.the-variants.{Principal, Time, Nonce, LongTermKey, SessionKey, Pair, Encrypted, Unknown}
+use Rattle.terms.specs.Choice.{pick, pick-elim, no-true}
+use Rattle.terms.specs.Rules.{termAt, isKey}
+use Rattle.terms.specs.Valid.{Valid, fields-of}
+use Rattle.worklist.specs.Found.{Found, learnOf, Room, Listed, More, more-refl, more-trans, learn-room, learn-marks, learn-more, learn-new, learn-listed}
+use Rattle.deduction.specs.Known.{Known, Derivable}
+use Rattle.deduction.specs.Opens.{opensOf, key-sure, left-sure, right-sure, body-sure}
+
+-- ---- definitions
+
+-- the term is an encryption under key k
+abbrev pub isUnder : ℕ → Term → Bool
+isUnder k (Principal p) = false
+isUnder k (Time t) = false
+isUnder k (Nonce i) = false
+isUnder k (LongTermKey p) = false
+isUnder k (SessionKey i) = false
+isUnder k (Pair l r) = false
+isUnder k (Encrypted b j) = eqb j k
+isUnder k Unknown = false
+
+-- term e is decrypted, if it is an encryption that has been found
+abbrev pub decryptOf : Found → ℕ → Term → Found
+decryptOf f e (Principal p) = f
+decryptOf f e (Time t) = f
+decryptOf f e (Nonce i) = f
+decryptOf f e (LongTermKey p) = f
+decryptOf f e (SessionKey i) = f
+decryptOf f e (Pair l r) = f
+decryptOf f e (Encrypted b k) = pick (marked (f .known) e) (learnOf f b) f
+decryptOf f e Unknown = f
+
+-- the encryptions under key k, of the terms below m, the last first
+unfoldable pub underOf : List ℕ → (k m : ℕ) → Found → Found
+underOf ts k zero f = f
+underOf ts k (suc m) f = underOf ts k m (pick (isUnder k (termAt ts m)) (decryptOf f m (termAt ts m)) f)
+
+-- what a pair and an encryption give
+abbrev pub partsOf : (flags : ℕ) (ts : List ℕ) → Found → Term → Found
+partsOf flags ts f (Principal p) = f
+partsOf flags ts f (Time t) = f
+partsOf flags ts f (Nonce n) = f
+partsOf flags ts f (LongTermKey p) = f
+partsOf flags ts f (SessionKey n) = f
+partsOf flags ts f (Pair l r) = learnOf (learnOf f l) r
+partsOf flags ts f (Encrypted b k) = pick (opensOf flags ts (f .known) k) (learnOf f b) f
+partsOf flags ts f Unknown = f
+
+-- what term i, of `count`, gives
+abbrev pub givenOf : (flags : ℕ) (ts : List ℕ) (count : ℕ) → Found → ℕ → Found
+givenOf flags ts count f i = pick (isKey (termAt ts i)) (underOf ts i count f) (partsOf flags ts f (termAt ts i))
+
+-- what has been found can be derived from the terms of ws
+pub record Work (n flags : ℕ) (ts : List ℕ) (count : ℕ) (ws : List ℕ) (f : Found) : Type 0 where
+  pub listed : Listed count f
+  pub sound : (k : ℕ) → k < count → marked (f .known) k ≡ true → Derivable n flags ts count ws k
+
+-- and nothing is lost
+pub record Step (n flags : ℕ) (ts : List ℕ) (count : ℕ) (ws : List ℕ) (f g : Found) : Type 0 where
+  pub work : Work n flags ts count ws g
+  pub more : More f g
+
+-- ---- an encryption under a key
+
+pub is-under : (k : ℕ) (t : Term) → isUnder k t ≡ true → (b : ℕ) × (t ≡ Encrypted b k)
+is-under k (Principal p) e = no-true e
+is-under k (Time t) e = no-true e
+is-under k (Nonce i) e = no-true e
+is-under k (LongTermKey p) e = no-true e
+is-under k (SessionKey i) e = no-true e
+is-under k (Pair l r) e = no-true e
+is-under k (Encrypted b j) e = (b, ap (λ (x : ℕ). Encrypted b x) (eqb-true j k e))
+is-under k Unknown e = no-true e
+
+pub under-is : (k b : ℕ) (t : Term) → t ≡ Encrypted b k → isUnder k t ≡ true
+under-is k b t e = rw e (eq-eqb k k refl)
+
+-- ---- decrypting a term that has been found, and one that has not
+
+module _ (f : Found) (e : ℕ) {t : Term} {b k : ℕ} (is : t ≡ Encrypted b k) where
+  pub decrypt-found : marked (f .known) e ≡ true → learnOf f b ≡ decryptOf f e t
+  decrypt-found m = rw (is, m)
+
+  pub decrypt-not : marked (f .known) e ≡ false → f ≡ decryptOf f e t
+  decrypt-not m = rw (is, m)
+
+-- ---- the ways of `partsOf` and `givenOf`
+
+module _ (flags : ℕ) (ts : List ℕ) (f : Found) {t : Term} where
+  pub pair-split : {l r : ℕ} → t ≡ Pair l r → learnOf (learnOf f l) r ≡ partsOf flags ts f t
+  pair-split is = rw is
+
+  module _ {b k : ℕ} (is : t ≡ Encrypted b k) where
+    pub body-given : opensOf flags ts (f .known) k ≡ true → learnOf f b ≡ partsOf flags ts f t
+    body-given o = rw (is, o)
+
+    pub body-kept : opensOf flags ts (f .known) k ≡ false → f ≡ partsOf flags ts f t
+    body-kept o = rw (is, o)
+
+module _ (flags : ℕ) (ts : List ℕ) (count : ℕ) (f : Found) (i : ℕ) where
+  pub by-key : isKey (termAt ts i) ≡ true → underOf ts i count f ≡ givenOf flags ts count f i
+  by-key e = rw e
+
+  pub by-parts : isKey (termAt ts i) ≡ false → partsOf flags ts f (termAt ts i) ≡ givenOf flags ts count f i
+  by-parts e = rw e
+
+-- ---- each step finds only what can be derived
+
+module _ (flags : ℕ) {n : ℕ} {ts : List ℕ} {count : ℕ} (v : Valid n ts count) (ws : List ℕ) where
+  abbrev Certain : ℕ → Type 0
+  Certain = Derivable n flags ts count ws
+
+  abbrev Next : Found → Found → Type 0
+  Next = Step n flags ts count ws
+
+  pub step-refl : {f : Found} → Work n flags ts count ws f → Next f f
+  step-refl {f} w = record { work = w; more = more-refl f }
+
+  pub step-trans : {f g h : Found} → Next f g → Next g h → Next f h
+  step-trans a b = record { work = b .work; more = more-trans (a .more) (b .more) }
+
+  pub learn-step : {f : Found} → Work n flags ts count ws f → (t : ℕ) → t < count → Certain t → Next f (learnOf f t)
+  learn-step {f} w t h d =
+      let low : t < 512 = omega (arith, v .room) in
+      let room = w .listed .room in
+      record {
+        work = record {
+          listed = learn-listed f t low h (w .listed);
+          sound = λ k hk m. ⊎-elim (λ e. subst Certain (sym e) d) (λ m′. w .sound k hk m′) (learn-new f t low room k m);
+        };
+        more = learn-more f t low room;
+      }
+
+  decrypt-step : {f : Found} → Work n flags ts count ws f → (e k : ℕ) → e < count → Certain k → isUnder k (termAt ts e) ≡ true
+      → Next f (decryptOf f e (termAt ts e))
+  decrypt-step {f} w e k h dk u =
+      let x = is-under k (termAt ts e) u in
+      rw (x .1)
+      (pick-elim (Next f) (marked (f .known) e) (learnOf f (x .0)) f
+      (λ m. learn-step w (x .0) (omega (arith, fields-of (v .terms) e h (x .1) .0)) (body-sure flags v (Known ts count ws) e h (x .0) k (x .1) (w .sound e h m) dk)) (λ _. step-refl w))
+
+  one-step : {f : Found} → Work n flags ts count ws f → (e k : ℕ) → e < count → Certain k
+      → Next f (pick (isUnder k (termAt ts e)) (decryptOf f e (termAt ts e)) f)
+  one-step {f} w e k h dk =
+      pick-elim (Next f) (isUnder k (termAt ts e)) (decryptOf f e (termAt ts e)) f (decrypt-step w e k h dk) (λ _. step-refl w)
+
+  pub under-step : (f : Found) → Work n flags ts count ws f → (k m : ℕ) → m ≤ count → Certain k → Next f (underOf ts k m f)
+  unfolding underOf
+  under-step f w k zero h dk = step-refl w
+  under-step f w k (suc m) h dk =
+      let one = one-step w m k h dk in
+      step-trans one (under-step (pick (isUnder k (termAt ts m)) (decryptOf f m (termAt ts m)) f) (one .work) k m (omega arith) dk)
+
+  parts-by : {f : Found} → Work n flags ts count ws f → (i : ℕ) → i < count → marked (f .known) i ≡ true → (t : Term) → termAt ts i ≡ t
+      → Next f (partsOf flags ts f t)
+  parts-by w i h m (Principal p) e = step-refl w
+  parts-by w i h m (Time t) e = step-refl w
+  parts-by w i h m (Nonce k) e = step-refl w
+  parts-by w i h m (LongTermKey p) e = step-refl w
+  parts-by w i h m (SessionKey k) e = step-refl w
+  parts-by w i h m (Pair l r) e =
+      let f = fields-of (v .terms) i h e in
+      let d = w .sound i h m in
+      let first = learn-step w l (omega (arith, f .0)) (left-sure flags v (Known ts count ws) i h l r e d) in
+      step-trans first (learn-step (first .work) r (omega (arith, f .1)) (right-sure flags v (Known ts count ws) i h l r e d))
+  parts-by {f} w i h m (Encrypted b k) e =
+      let low = fields-of (v .terms) i h e in
+      pick-elim (Next f) (opensOf flags ts (f .known) k) (learnOf f b) f
+      (λ o. learn-step w b (omega (arith, low .0)) (body-sure flags v (Known ts count ws) i h b k e (w .sound i h m) (key-sure flags v (Known ts count ws) (f .known) (w .sound) k (omega (arith, low .1)) o)))
+      (λ _. step-refl w)
+  parts-by w i h m Unknown e = step-refl w
+
+  -- ---- and all that the term gives
+
+  module _ (f : Found) (w : Work n flags ts count ws f) (i : ℕ) (h : i < count) (m : marked (f .known) i ≡ true) where
+    pub given-step : Next f (givenOf flags ts count f i)
+    given-step =
+        pick-elim (Next f) (isKey (termAt ts i)) (underOf ts i count f) (partsOf flags ts f (termAt ts i))
+        (λ _. under-step f w i count (le-refl count) (w .sound i h m)) (λ _. parts-by w i h m (termAt ts i) refl)
+
+    pub given-halves : (l r : ℕ) → termAt ts i ≡ Pair l r → (marked (givenOf flags ts count f i .known) l ≡ true) × (marked (givenOf flags ts count f i .known) r ≡ true)
+    given-halves l r e =
+        let low = fields-of (v .terms) i h e in
+        let d = w .sound i h m in
+        let first = learn-step w l (omega (arith, low .0)) (left-sure flags v (Known ts count ws) i h l r e d) in
+        let second = learn-step (first .work) r (omega (arith, low .1)) (right-sure flags v (Known ts count ws) i h l r e d) in
+        let hl : l < 512 = omega (arith, low .0, v .room) in
+        let hr : r < 512 = omega (arith, low .1, v .room) in
+        rw e (second .more .keeps l (learn-marks f l hl (w .listed .room)), learn-marks (learnOf f l) r hr (first .work .listed .room))
+
+    pub given-body : (b k : ℕ) → termAt ts i ≡ Encrypted b k → opensOf flags ts (f .known) k ≡ true → marked (givenOf flags ts count f i .known) b ≡ true
+    given-body b k e o = rw (e, o) (learn-marks f b (omega (arith, fields-of (v .terms) i h e .0, v .room)) (w .listed .room))
+
+  -- every encryption under the key that had been found is opened
+  under-opens : (f : Found) → Work n flags ts count ws f → (k m : ℕ) → m ≤ count → Certain k → (e b : ℕ) → e < m → termAt ts e ≡ Encrypted b k
+      → marked (f .known) e ≡ true → marked (underOf ts k m f .known) b ≡ true
+  unfolding underOf
+  under-opens f w k zero h dk e b lt q m = absurd (omega arith)
+  under-opens f w k (suc j) h dk e b lt q m = by (ℕ-discrete e j) (under-opens g (one .work) k j (omega arith) dk e b)
+    where
+      g : Found
+      g = pick (isUnder k (termAt ts j)) (decryptOf f j (termAt ts j)) f
+
+      one : Next f g
+      one = one-step w j k h dk
+
+      here : e ≡ j → marked (g .known) b ≡ true
+      here s =
+          let q′ : termAt ts j ≡ Encrypted b k = subst (λ (x : ℕ). termAt ts x ≡ Encrypted b k) s q in
+          let m′ : marked (f .known) j ≡ true = subst (λ (x : ℕ). marked (f .known) x ≡ true) s m in
+          rw (q′, eq-eqb k k refl, m′) (learn-marks f b (omega (arith, fields-of (v .terms) j h q′ .0, v .room)) (w .listed .room))
+
+      by : Dec (e ≡ j) → (e < j → termAt ts e ≡ Encrypted b k → marked (g .known) e ≡ true → marked (underOf ts k j g .known) b ≡ true)
+          → marked (underOf ts k j g .known) b ≡ true
+      by (yes s) rest = under-step g (one .work) k j (omega arith) dk .more .keeps b (here s)
+      by (no ne) rest = rest (omega arith) q (one .more .keeps e m)
+
+  pub given-under : (f : Found) → Work n flags ts count ws f → (i : ℕ) → i < count → marked (f .known) i ≡ true → (e b : ℕ) → e < count
+      → termAt ts e ≡ Encrypted b i → marked (f .known) e ≡ true → marked (givenOf flags ts count f i .known) b ≡ true
+  given-under f w i h m e b he q me = rw (fields-of (v .terms) e he q .2) (under-opens f w i count (le-refl count) (w .sound i h m) e b he q me)

@@ -1,0 +1,3 @@
+pub mod Gives
+pub mod Along
+pub mod Explore

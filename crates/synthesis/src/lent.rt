@@ -1,0 +1,41 @@
+// The public call on lent tables: any slices, any numbers, nothing required.
+use super::compose::derivable;
+use deduction::Principals;
+use marks::is_within;
+use marks::load;
+use terms::lent::holds_together;
+use terms::rules::REFUSE_RANGE;
+use terms::rules::REFUSE_TABLES;
+ghost use Rattle.synthesis.specs.Lent.{AnswerIs};
+
+// Words in the packed set of terms on the wire.
+pub const WIRE_WORDS: usize = 8;
+
+pub enum Answer {
+    Derivable,
+    Underivable,
+    Refused(u8),
+}
+
+// Whether the intruder can derive term t.
+pub fn can_derive(terms: &[u64], count: usize, who: Principals, wire: &[u64], t: usize) -> Answer
+    ensures { λ r. ⌜ AnswerIs (who .n) (who .flags) (now (terms .entry)) count (now (wire .entry)) t r ⌝ }
+{
+    let n = who.n;
+    if !holds_together(terms, count, n) {
+        return Answer::Refused(REFUSE_TABLES);
+    }
+    if wire.len() != WIRE_WORDS {
+        return Answer::Refused(REFUSE_TABLES);
+    }
+    if !is_within(load(wire), count) {
+        return Answer::Refused(REFUSE_TABLES);
+    }
+    if count <= t {
+        return Answer::Refused(REFUSE_RANGE);
+    }
+    if derivable(terms, count, who, wire, t) {
+        return Answer::Derivable;
+    }
+    Answer::Underivable
+}

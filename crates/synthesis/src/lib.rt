@@ -1,0 +1,3 @@
+// Whether the intruder can put a term together from what he finds, which is whether he can derive it.
+pub mod compose;
+pub mod lent;
