@@ -89,15 +89,16 @@ pub struct Call {
     pub name: &'static str,
     pub both: Both,
     pub record: Record,
-    /// Sweeps of its derivability test.
+    /// Sweeps that a test by the definition takes.
     pub sweeps: usize,
 }
 
 /// How many calls there are.
 pub const CALLS: usize = 4;
 
-/// A call on so many terms, 64 runs and 16 entries. The first makes one sweep, in
-/// which each term is known; the last is always on 512 terms.
+/// A call on so many terms, 64 runs and 16 entries. In the first each term is on
+/// the wire, so that one look at each is all there is to do; the last is always on
+/// 512 terms.
 pub fn make(number: usize, terms: usize) -> Call {
     let (name, both, record) = match number {
         0 => ("step 10, every term on the wire", all_known(terms), query(0)),

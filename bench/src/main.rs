@@ -154,18 +154,18 @@ fn call_counts(number: usize, terms: usize) -> io::Result<[f64; 3]> {
 fn public_calls(count: bool, unit: &str) -> io::Result<()> {
     let over = format!("Over the check, {unit}");
     let names = ["Call", "Sweeps", "Engine, us", "The check, us", "Reference, us", &over];
-    head(&[&names[..], &["In sweeps", "Reference", "Ratio"]].concat());
-    let mut sweep = None;
+    head(&[&names[..], &["To the first row", "Reference", "Ratio"]].concat());
+    let mut first = None;
     for number in 0..CALLS {
         let call = make(number, 512);
         let times = call_times(number, 512);
         let costs = if count { call_counts(number, 512)? } else { times };
         let [engine, check, reference] = costs;
         let over = engine - check;
-        let sweep = *sweep.get_or_insert(over);
+        let first = *first.get_or_insert(over);
         let mut cells = vec![call.name.to_string(), call.sweeps.to_string()];
         cells.extend(times.map(figure));
-        cells.extend([over, over / sweep, reference, over / reference].map(figure));
+        cells.extend([over, over / first, reference, over / reference].map(figure));
         line(&cells);
     }
     Ok(())
