@@ -3,24 +3,22 @@
 //
 // The list of them is the file `files`: on its first line the number of walks, then for each the name of its walk file and,
 // on the next line, that of its listing.
-mod compare;
-
 use bytes::scan::find;
 use check::same;
-use compare::NEWLINE;
-use compare::Totals;
-use compare::Verdict;
-use compare::counted;
-use compare::judge;
 use io::print_decimal;
 use io::write_all;
+use judging::NEWLINE;
+use judging::Totals;
+use judging::Verdict;
+use judging::counted;
+use judging::judge;
 use libc::STDOUT_FILENO;
 use walkfile::LISTING_BYTES;
 ghost use mathlib.Core.Path.{_≡_};
 ghost use Prim.Native.Nat.{_<_, _≤_};
 ghost use lib.ListN.{length};
 ghost use Rattle.io.specs.Counts.{Counts};
-ghost use Rattle.vectors.specs.Compare.{isSame};
+ghost use Rattle.judging.specs.Compare.{isSame};
 
 // The longest walk file is one byte shorter.
 const WALK_BYTES: usize = 65537;

@@ -5,7 +5,7 @@ use walkfile::list;
 ghost use mathlib.Core.Path.{_≡_};
 ghost use Prim.Native.Nat.{_+_, _<_, _≤_};
 ghost use Rattle.walkfile.specs.Listing.{listingOf};
-ghost use Rattle.vectors.specs.Compare.{difference, disagreements};
+ghost use Rattle.judging.specs.Compare.{difference, disagreements};
 
 pub const NEWLINE: u8 = 10;
 

@@ -8,10 +8,10 @@ use borrow.Author.Needs.{needs}
 use Rattle.walkfile.specs.declared.Listing.{Listing}
 use Rattle.walkfile.specs.Listing.{outcome, written, listed}
 use Rattle.walkfile.specs.Promises.{counts, start-is}
-use Rattle.vectors.specs.Compare.{difference}
-use Rattle.vectors.specs.Laws.{has-room}
-use Rattle.vectors.proofs.compare.judge.Statement.{statement}
-use Rattle.vectors.proofs.compare.judge.Tie as tie
+use Rattle.judging.specs.Compare.{difference}
+use Rattle.judging.specs.Laws.{has-room}
+use Rattle.judging.proofs.judge.Statement.{statement}
+use Rattle.judging.proofs.judge.Tie as tie
 
 slice-aggregate-list : tie.Need-slice-aggregate-list
 slice-aggregate-list c = search needs

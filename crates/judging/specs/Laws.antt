@@ -12,8 +12,8 @@ use lib.Seq.{drop-cons}
 use borrow.Author.Tests.{eq-eqb, ne-eqb, le-ltb}
 use Rattle.terms.specs.Choice.{pick}
 use Rattle.walkfile.specs.Listing.{listingBytes, listed, no-room, written}
-use Rattle.vectors.specs.declared.compare.Verdict.the-variants.{Same, Line}
-use Rattle.vectors.specs.Compare.{lineAfter, difference, disagreements}
+use Rattle.judging.specs.declared.Verdict.the-variants.{Same, Line}
+use Rattle.judging.specs.Compare.{lineAfter, difference, disagreements}
 
 -- ---- two texts from a place on
 

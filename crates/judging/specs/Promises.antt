@@ -9,9 +9,9 @@ use native.Mathlib.Omega.{arith}
 use lib.Dec.{eqb}
 use borrow.Author.Tests.{eqb-true, eq-eqb}
 use Rattle.terms.specs.Choice.{pick}
-use Rattle.vectors.specs.declared.compare.Verdict.{Verdict}
-use Rattle.vectors.specs.declared.compare.Verdict.the-variants.{Same, Line}
-use Rattle.vectors.specs.Compare.{lineAfter, difference}
+use Rattle.judging.specs.declared.Verdict.{Verdict}
+use Rattle.judging.specs.declared.Verdict.the-variants.{Same, Line}
+use Rattle.judging.specs.Compare.{lineAfter, difference}
 
 -- A text is the same as itself,
 pub itself : (line : ℕ) (xs : List ℕ) → difference line xs xs ≡ Same

@@ -1,4 +1,0 @@
--- Stored walks against stored listings. Promises is to be read first.
-pub mod Promises
-pub mod Compare
-pub mod Laws
