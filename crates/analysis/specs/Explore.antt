@@ -3,26 +3,25 @@
 -- Assumes nothing.
 use mathlib.Core.Path.{_≡_, refl, sym, ap, _∙_, subst}
 use mathlib.Core.Logic.{_⊎_, inl, inr, ⊎-elim}
-use mathlib.Core.Bool.{Bool, true, false}
+use mathlib.Core.Bool.{true}
 use mathlib.Core.List.{List}
 use Prim.Native.Nat.{ℕ, zero, suc, _+_, _<_, _≤_}
 use native.Mathlib.Decide.{ℕ-discrete}
 use native.Mathlib.Nat.{le-refl}
 use native.Mathlib.Omega.{arith}
-use lib.ListN.{getD, length, replicate, length-replicate}
-use Rattle.marks.specs.Marks.{Words, marked, size}
+use lib.ListN.{getD, replicate, length-replicate}
+use Rattle.marks.specs.Marks.{marked}
 use Rattle.marks.specs.Size.{size-le}
 use Rattle.marks.specs.Empty.{empty-words, empty-marked, empty-size}
 use Rattle.words.specs.declared.Term.the-variants.{Pair, Encrypted}
 use Rattle.terms.specs.Choice.{pick, pick-elim, no-true}
-use Rattle.terms.specs.Meaning.{messageAt}
 use Rattle.terms.specs.Rules.{termAt}
 use Rattle.terms.specs.Valid.{Valid, fields-of}
 use Rattle.deduction.specs.Derives.{on-wire}
-use Rattle.worklist.specs.Found.{Found, asFound, learnOf, noticeOf, startOf, notice-room, learn-marks, learn-room, learn-new, listed-none, Room, Listed}
-use Rattle.analysis.specs.Gives.{givenOf, Work, Step, learn-step, step-refl, step-trans, given-step, given-halves, given-body, given-under}
-use Rattle.deduction.specs.Known.{Known, Filled}
-use Rattle.deduction.specs.Opens.{opensOf, opens-if}
+use Rattle.worklist.specs.Found.{Found, asFound, learnOf, startOf, notice-room, learn-marks, learn-new, listed-none, Room, Listed}
+use Rattle.analysis.specs.Gives.{givenOf, Work, Step, learn-step, step-refl, given-step, given-halves, given-body, given-under}
+use Rattle.deduction.specs.Known.{Filled}
+use Rattle.deduction.specs.Opens.{opens-if}
 use Rattle.deduction.specs.Public.{publicOf}
 use Rattle.deduction.specs.Secrecy.{derives-more}
 

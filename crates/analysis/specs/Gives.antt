@@ -1,8 +1,8 @@
 -- What a found term gives: a pair its halves, an encryption its body where the key has been found or is public, and a key the
 -- bodies of the encryptions under it that have been found. Nothing becomes known that cannot be derived.
 -- Assumes nothing.
-use mathlib.Core.Path.{_≡_, refl, sym, ap, _∙_, subst}
-use mathlib.Core.Logic.{_⊎_, inl, inr, ⊎-elim}
+use mathlib.Core.Path.{_≡_, refl, sym, ap, subst}
+use mathlib.Core.Logic.{_⊎_, ⊎-elim}
 use mathlib.Core.Bool.{Bool, true, false}
 use mathlib.Core.List.{List}
 use Prim.Native.Nat.{ℕ, zero, suc, _<_, _≤_}
@@ -11,14 +11,13 @@ use native.Mathlib.Nat.{le-refl}
 use native.Mathlib.Omega.{arith}
 use borrow.Author.Tests.{eqb-true, eq-eqb}
 use lib.Dec.{eqb}
-use lib.ListN.{getD}
 use Rattle.marks.specs.Marks.{marked}
 use Rattle.words.specs.declared.Term.{Term}
 use Rattle.words.specs.declared.Term.the-variants.{Principal, Time, Nonce, LongTermKey, SessionKey, Pair, Encrypted, Unknown}
 use Rattle.terms.specs.Choice.{pick, pick-elim, no-true}
 use Rattle.terms.specs.Rules.{termAt, isKey}
 use Rattle.terms.specs.Valid.{Valid, fields-of}
-use Rattle.worklist.specs.Found.{Found, learnOf, Room, Listed, More, more-refl, more-trans, learn-room, learn-marks, learn-more, learn-new, learn-listed}
+use Rattle.worklist.specs.Found.{Found, learnOf, Listed, More, more-refl, more-trans, learn-marks, learn-more, learn-new, learn-listed}
 use Rattle.deduction.specs.Known.{Known, Derivable}
 use Rattle.deduction.specs.Opens.{opensOf, key-sure, left-sure, right-sure, body-sure}
 

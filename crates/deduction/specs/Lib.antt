@@ -1,3 +1,4 @@
+-- What the intruder can derive. Promises is to be read first.
 pub mod Promises
 pub mod Derives
 pub mod Secrecy

@@ -1,3 +1,4 @@
+-- The derivability test. Promises is to be read first.
 pub mod Promises
 pub mod Sweep
 pub mod Saturate

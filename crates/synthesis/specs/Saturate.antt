@@ -1,6 +1,6 @@
 -- Sweeps until one adds nothing: what holds after each, and at the end.
 -- Assumes nothing.
-use mathlib.Core.Path.{_≡_, refl, sym, subst}
+use mathlib.Core.Path.{_≡_, refl}
 use mathlib.Core.Bool.{true}
 use mathlib.Core.List.{List}
 use Prim.Native.Nat.{ℕ, _-_, _<_}
@@ -9,7 +9,6 @@ use native.Mathlib.Omega.{arith}
 use Rattle.marks.specs.Grown.{Grown, grown-refl, grown-trans}
 use Rattle.marks.specs.Marks.{Words, marked, size}
 use Rattle.marks.specs.Size.{size-le}
-use Rattle.terms.specs.Meaning.{messageAt}
 use Rattle.terms.specs.Valid.{Valid}
 use Rattle.deduction.specs.Derives.{on-wire}
 use Rattle.deduction.specs.Known.{Known, Derivable, Filled}

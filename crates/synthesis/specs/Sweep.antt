@@ -2,24 +2,22 @@
 -- their parts known. A sweep that adds nothing shows that the set is saturated.
 -- Assumes nothing.
 use mathlib.Core.Path.{_≡_, refl, sym, ap, _∙_, subst}
-use mathlib.Core.Logic.{_⊎_, inl, inr, ⊎-elim}
+use mathlib.Core.Logic.{_⊎_, ⊎-elim}
 use mathlib.Core.Bool.{Bool, true}
 use mathlib.Core.List.{List}
-use Prim.Native.Nat.{ℕ, zero, suc, _*_, _-_, _<_, _≤_}
+use Prim.Native.Nat.{ℕ, zero, suc, _*_, _<_, _≤_}
 use native.Mathlib.Decide.{ℕ-discrete}
 use native.Mathlib.Nat.{le-refl}
 use native.Mathlib.Omega.{arith}
-use lib.ListN.{getD, length}
+use lib.ListN.{length}
 use Rattle.marks.specs.Grown.{Grown, grown-refl, grown-trans, grown-with}
 use Rattle.marks.specs.Marks.{Words, marked, withMark, size, marked-same, marked-keeps, marked-new, with-length}
 use Rattle.words.specs.declared.Term.{Term}
 use Rattle.words.specs.declared.Term.the-variants.{Principal, Time, Nonce, LongTermKey, SessionKey, Pair, Encrypted, Unknown}
 use Rattle.terms.specs.Choice.{pick, pick-elim}
-use Rattle.terms.specs.Meaning.{messageOf, messageAt, message-at, key-at}
 use Rattle.terms.specs.Message.{Message}
 use Rattle.terms.specs.Rules.{termAt, Fields}
 use Rattle.terms.specs.Valid.{Valid, fields-at, fields-of}
-use Rattle.words.specs.Word.{time-fits}
 use Rattle.deduction.specs.Known.{Saturated}
 use Rattle.deduction.specs.Opens.{opensOf, opens-if, Sure, key-sure, left-sure, right-sure, body-sure}
 use Rattle.deduction.specs.Public.{publicOf}

@@ -1,13 +1,11 @@
 -- `analysis::saturate::decrypt_under` meets its contract. The invariant: the walk along the chain has come to e. Assumes nothing.
 use borrow.Author.Needs.{needs}
-use mathlib.Core.Path.{_≡_, sym, ap, _∙_, subst}
-use Prim.Native.Nat.{ℕ, _<_}
+use mathlib.Core.Path.{sym, ap, _∙_, subst}
 use native.Mathlib.Omega.{arith}
 use lib.ListN.{getD}
 use Rattle.terms.specs.Meaning.{Under}
-use Rattle.terms.specs.Rules.{termAt}
 use Rattle.words.specs.declared.Term.{Term}
-use Rattle.analysis.specs.Along.{Along, along-start, along-low, along-is, along-under, along-less, along-next, along-end}
+use Rattle.analysis.specs.Along.{Along, along-start, along-low, along-under, along-less, along-next, along-end}
 use Rattle.worklist.specs.Found.{asFound}
 use Rattle.analysis.specs.Gives.{decryptOf}
 use Rattle.analysis.proofs.saturate.decrypt_under.Statement.{statement}

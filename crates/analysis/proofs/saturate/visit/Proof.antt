@@ -1,5 +1,5 @@
 -- `analysis::saturate::visit` meets its contract: a key by its chain, another term by its parts. Assumes nothing.
-use mathlib.Core.Path.{_≡_, sym, ap, _∙_, subst}
+use mathlib.Core.Path.{sym, ap, _∙_, subst}
 use native.Mathlib.Omega.{arith}
 use borrow.Author.Needs.{needs}
 use Rattle.terms.specs.Meaning.{Under, under-at}

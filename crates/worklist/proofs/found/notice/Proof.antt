@@ -1,8 +1,8 @@
 -- `worklist::found::notice` meets its contract. Assumes nothing.
-use mathlib.Core.Path.{_≡_, sym, ap, _∙_}
+use mathlib.Core.Path.{sym, _∙_}
 use borrow.Author.Needs.{needs}
 use borrow.Author.Tests.{not-true, not-false}
-use Rattle.worklist.specs.Found.{Found, asFound, learnOf, notice-not, notice-new}
+use Rattle.worklist.specs.Found.{asFound, notice-not, notice-new}
 use Rattle.worklist.proofs.found.notice.Statement.{statement}
 use Rattle.worklist.proofs.found.notice.Tie as tie
 

@@ -1,7 +1,7 @@
 -- `worklist::found::start` meets its contract. The invariant: the terms on the wire below i have been found. Assumes nothing.
 use borrow.Author.Needs.{needs}
 use mathlib.Core.Path.{_≡_, sym, ap, _∙_, subst}
-use Prim.Native.Nat.{ℕ, _-_, _<_, _≤_}
+use Prim.Native.Nat.{ℕ, _-_, _≤_}
 use native.Mathlib.Omega.{arith}
 use Rattle.worklist.specs.Found.{Found, asFound, Room, noticeOf, startOf, start-zero, start-next, notice-room}
 use Rattle.worklist.proofs.found.start.Statement.{statement}
