@@ -1,34 +1,9 @@
 -- `changes::sends::draft_of` meets its contract: each arm by the event that it is and by the draft's contract. Assumes nothing.
-use mathlib.Core.List.{List, [], _∷_}
-use mathlib.Core.Path.{_≡_, refl}
-use Prim.Native.Nat.{ℕ}
-use denote.Enum.Declared.{tagOf}
-use types.Run.{OneOf, miss}
 use borrow.Author.Needs.{needs}
-use Rattle.exchange.proofs.event.Event.{the-type}
-use Rattle.exchange.specs.declared.event.Event.{Event}
-use Rattle.exchange.specs.declared.event.Event.the-variants.{Initiate, Respond, Issue, Authenticate, Accept, Finish, Tick, Purge, Leak}
 use Rattle.exchange.specs.declared.event.Event.the-variants as events
-use Rattle.layouts.specs.Drafts.{laid}
-use Rattle.changes.specs.Sends.{draftOf}
+use Rattle.changes.proofs.Silent.{none}
 use Rattle.changes.proofs.sends.draft_of.Statement.{statement}
 use Rattle.changes.proofs.sends.draft_of.Tie as tie
-
--- the events that send nothing
-abbrev others : List ℕ
-others = 1 ∷ 5 ∷ 6 ∷ 7 ∷ 9 ∷ []
-
-none : (e : Event) → OneOf others (tagOf the-type e) → laid [] ≡ draftOf e
-none (Initiate r a b) among = absurd (miss others 0 tt among)
-none (Respond r a b) among = refl
-none (Issue r a b ts n) among = absurd (miss others 2 tt among)
-none (Authenticate r a b k ts ta) among = absurd (miss others 3 tt among)
-none (Accept r a b k ts ta) among = absurd (miss others 4 tt among)
-none (Finish r a b k ts ta) among = refl
-none (Tick t) among = refl
-none (Purge b) among = refl
-none (Leak r) among = absurd (miss others 8 tt among)
-none events.Nothing among = refl
 
 enum-known-event : tie.Need-enum-known-event
 enum-known-event c = search needs
@@ -106,7 +81,7 @@ returns-5 : tie.Need-returns-5
 returns-5 c = rw (c .before .before .event5 .given .1) (c .lay-key .ensures)
 
 returns-6 : tie.Need-returns-6
-returns-6 c = none (c .before .args .event) (c .match .keys6)
+returns-6 c = none (c .before .args .event) (c .match .keys6) .1
 
 pub draft-of-spec : {M : Type 1} → statement M
 draft-of-spec =
