@@ -1,41 +1,16 @@
 -- How long the lines are: what stands around their numbers, and the digits of these.
 -- Assumes nothing.
 use mathlib.Core.List.{List, _++_}
-use mathlib.Core.Path.{_≡_, refl, ap, _∙_}
+use mathlib.Core.Path.{_≡_, ap, _∙_}
 use Prim.Native.Nat.{ℕ, suc, _+_, _*_, _^_, _≤_, _<_}
-use Prim.Native.String.{String}
 use native.Mathlib.Omega.{arith}
 use lib.ListN.{length, length-append}
 use Rattle.exchange.specs.declared.call.Answer.{Answer}
-use Rattle.exchange.specs.declared.call.Answer.the-variants.{Number, OkRun, Ok, Refused}
 use Rattle.exchange.specs.declared.call.Call.{Call}
-use Rattle.exchange.specs.declared.call.Call.the-variants.{Term, Step}
-use Rattle.lines.specs.Decimal.{decimal-short}
-use Rattle.lines.specs.Lines.{ascii, decimal, field, markText, answerText, callLine, fileLine, endLine}
-
--- an answer's numbers have the widths of the code
-abbrev pub Narrow : Answer → Type 0
-Narrow (Number i) = i < 65536
-Narrow (OkRun r) = r < 256
-Narrow Ok = Unit {0}
-Narrow (Refused k) = k < 256
-
--- ---- the parts of a line
-
-field-length : (text : String) (n : ℕ) → length (field text n) ≡ length (ascii text) + length (decimal n)
-field-length text n = length-append (ascii text) (decimal n)
-
-pub mark-length : (call : Call) → length (markText call) ≡ 4
-unfolding markText
-mark-length (Term kind l r) = refl
-mark-length (Step step run a b m t) = refl
-
-pub answer-short : (answer : Answer) → Narrow answer → length (answerText answer) ≤ 11
-unfolding answerText
-answer-short (Number i) h = omega (arith, decimal-short i 4 (omega (arith, h)))
-answer-short (OkRun r) h = omega (arith, field-length "ok " r, decimal-short r 2 (omega (arith, h)))
-answer-short Ok h = omega arith
-answer-short (Refused k) h = omega (arith, field-length "refused " k, decimal-short k 2 (omega (arith, h)))
+use Rattle.fields.specs.Decimal.{decimal-short}
+use Rattle.fields.specs.Fields.{ascii, decimal, field, markText, answerText}
+use Rattle.fields.specs.Lengths.{Narrow, field-length, mark-length, answer-short}
+use Rattle.lines.specs.Lines.{callLine, fileLine, endLine}
 
 joined-length : (a b c : List ℕ) → length (a ++ b ++ c) ≡ length a + length b + length c
 joined-length a b c = length-append (a ++ b) c ∙ ap (λ (k : ℕ). k + length c) (length-append a b)

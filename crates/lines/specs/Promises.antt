@@ -1,48 +1,14 @@
--- What the crate promises beside the contracts of its functions. A contract says `Wrote before at LINE after next`: the line
--- was written into the buffer from offset `at` on, `next` is the offset after it, and no other place changed. Lines has the
--- lines themselves.
+-- What the crate promises beside the contracts of its functions: how long the lines are. Lines has the lines themselves, and
+-- what a contract says of the buffer is in the promises of `fields`.
 -- Assumes nothing.
-use mathlib.Core.List.{List, _++_}
-use mathlib.Core.Path.{_≡_, sym, ap, _∙_}
 use native.Mathlib.Omega.{arith}
-use Prim.Native.Nat.{ℕ, _+_, _^_, _≤_, _<_}
-use lib.ListN.{length, take, drop, getD}
+use Prim.Native.Nat.{ℕ, _^_, _≤_, _<_}
+use lib.ListN.{length}
 use Rattle.exchange.specs.declared.call.Answer.{Answer}
 use Rattle.exchange.specs.declared.call.Call.{Call}
-use Rattle.lines.specs.Decimal as decimals
-use Rattle.lines.specs.Lengths.{Narrow, call-length, file-length, end-length}
-use Rattle.lines.specs.Lines.{decimal, headerLine, callLine, fileLine, endLine, LONGEST}
-use Rattle.lines.specs.Placed as placing
-use Rattle.lines.specs.Placed.{Wrote}
-
--- ---- the buffer
-
--- what stood before the line stands there still, the line after it;
-pub written : {before : List ℕ} {at : ℕ} {bytes after : List ℕ} {next : ℕ} → at ≤ length before → Wrote before at bytes after next
-    → take next after ≡ take at before ++ bytes
-written h w = placing.written h w
-
--- what stands past the line is as it was;
-pub kept : {before : List ℕ} {at : ℕ} {bytes after : List ℕ} {next : ℕ} → at ≤ length before → Wrote before at bytes after next
-    → drop next after ≡ drop next before
-kept h w = placing.kept h w
-
--- two lines, one after the other, are one text.
-pub joined : {before : List ℕ} {at : ℕ} {mid after : List ℕ} {next last : ℕ} {u v : List ℕ} → at ≤ length before
-    → Wrote before at u mid next → Wrote mid next v after last → Wrote before at (u ++ v) after last
-joined h a b = placing.joined h a b
-
--- ---- numbers
-
--- different numbers have different digits,
-pub told-apart : (m n : ℕ) → decimal m ≡ decimal n → m ≡ n
-told-apart m n e = sym (decimals.decimal-value m) ∙ ap (decimals.valueFrom 0) e ∙ decimals.decimal-value n
-
--- and there is no leading zero.
-pub no-leading-zero : (n : ℕ) → 0 < n → 48 < getD (decimal n) 0 0
-no-leading-zero n h = decimals.decimal-first n h
-
--- ---- lengths
+use Rattle.fields.specs.Lengths.{Narrow}
+use Rattle.lines.specs.Lengths.{call-length, file-length, end-length}
+use Rattle.lines.specs.Lines.{headerLine, callLine, fileLine, endLine, LONGEST}
 
 -- The line of a record whose number is below 100,000 has at most 24 bytes, and the last line at most 64,
 pub header-short : length headerLine ≤ 24

@@ -1,74 +1,18 @@
 // The lines of the listing, written into a lent buffer from an offset on. Each function answers the offset after what it wrote.
 use exchange::call::Answer;
 use exchange::call::Call;
-ghost use mathlib.Core.List.{_++_};
-ghost use mathlib.Core.Path.{_≡_};
+use fields::write_answer;
+use fields::write_field;
+use fields::write_mark;
+use fields::write_number;
+use fields::write_text;
 ghost use Prim.Native.Nat.{_+_, _<_, _≤_};
 ghost use lib.ListN.{length};
-ghost use Rattle.lines.specs.Lines.{LONGEST, decimal, answerText, markText, headerLine, callLine, fileLine, endLine};
-ghost use Rattle.lines.specs.Placed.{Wrote};
+ghost use Rattle.fields.specs.Placed.{Wrote};
+ghost use Rattle.lines.specs.Lines.{LONGEST, headerLine, callLine, fileLine, endLine};
 
 // Room for any line, the contracts' `LONGEST`: the last line with four numbers of ten digits.
 pub const MAX_LINE: usize = 70;
-
-fn write_text(out: &mut [u8], at: usize, text: &[u8]) -> usize
-    requires { ⌜ at + length (now text) ≤ length (now out) ⌝ }
-    ensures { λ r. ⌜ Wrote (now (out .entry)) at (now (text .entry)) (now (out .exit)) r ⌝ }
-{
-    let written = bytes::copy(text, &mut out[at..]);
-    at + written
-}
-
-fn write_number(out: &mut [u8], at: usize, number: u32) -> usize
-    requires { ⌜ at + 10 ≤ length (now out) ⌝ }
-    ensures { λ r. ⌜ Wrote (now (out .entry)) at (decimal number) (now (out .exit)) r × (r ≤ at + 10) ⌝ }
-{
-    let mut digits = [0u8; 20];
-    let count = io::decimal(number as u64, &mut digits);
-    write_text(out, at, &digits[..count])
-}
-
-// A text, then a number.
-fn write_field(out: &mut [u8], at: usize, text: &[u8], number: u32) -> usize
-    requires { ⌜ at + length (now text) + 10 ≤ length (now out) ⌝ }
-    ensures { λ r. ⌜ Wrote (now (out .entry)) at (now (text .entry) ++ decimal number) (now (out .exit)) r × (r ≤ at + length (now (text .entry)) + 10) ⌝ }
-{
-    let next = write_text(out, at, text);
-    write_number(out, next, number)
-}
-
-fn write_mark(out: &mut [u8], at: usize, call: Call) -> usize
-    requires { ⌜ at + 4 ≤ length (now out) ⌝ }
-    ensures { λ r. ⌜ Wrote (now (out .entry)) at (markText call) (now (out .exit)) r × (r ≡ at + 4) ⌝ }
-{
-    match call {
-        Call::Term {
-            kind: _,
-            l: _,
-            r: _,
-        } => write_text(out, at, b" TM "),
-        Call::Step {
-            step: _,
-            run: _,
-            a: _,
-            b: _,
-            m: _,
-            t: _,
-        } => write_text(out, at, b" ST "),
-    }
-}
-
-fn write_answer(out: &mut [u8], at: usize, answer: Answer) -> usize
-    requires { ⌜ at + 18 ≤ length (now out) ⌝ }
-    ensures { λ r. ⌜ Wrote (now (out .entry)) at (answerText answer) (now (out .exit)) r × (r ≤ at + 11) ⌝ }
-{
-    match answer {
-        Answer::Number(term) => write_number(out, at, term as u32),
-        Answer::OkRun(run) => write_field(out, at, b"ok ", run as u32),
-        Answer::Ok => write_text(out, at, b"ok -"),
-        Answer::Refused(refusal) => write_field(out, at, b"refused ", refusal as u32),
-    }
-}
 
 // The line of the first record, where it was accepted.
 pub fn write_header_line(out: &mut [u8], at: usize) -> usize

@@ -10,8 +10,8 @@ use lib.Dec.{ltb}
 use lib.ListN.{length, take, drop, length-take}
 use Rattle.io.specs.Counts.{Counts}
 use Rattle.terms.specs.Choice.{pick}
-use Rattle.lines.specs.Placed.{placed, Wrote}
-use Rattle.lines.specs.Promises as lines
+use Rattle.fields.specs.Placed.{placed, Wrote}
+use Rattle.fields.specs.Promises as fields
 use Rattle.walkfile.specs.Listing.{listingOf, listingBytes, written, no-room, listed}
 use Rattle.walkfile.specs.Ways as ways
 
@@ -35,11 +35,11 @@ module _ (file buffer : List ℕ) where
 
     -- Otherwise the listing stands at its start,
     pub start-is : take count after ≡ listingOf file
-    start-is = lines.written (omega arith) wrote
+    start-is = fields.written (omega arith) wrote
 
     -- and the bytes behind it are as they were.
     pub rest-kept : drop count after ≡ drop count buffer
-    rest-kept = lines.kept (omega arith) wrote
+    rest-kept = fields.kept (omega arith) wrote
 
     -- The count is within the buffer.
     pub counts : Counts count after

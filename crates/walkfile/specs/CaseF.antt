@@ -33,7 +33,8 @@ use Rattle.records.specs.Calls.{callsWithin, callsOf}
 use Rattle.records.specs.Fields.{begins}
 use Rattle.records.specs.Headers.{headerOf}
 use Rattle.records.specs.Records.{frontOf}
-use Rattle.lines.specs.Lines.{ascii, decimalBy, decimal, headerLine, markText, answerText, callLine, fileLine, endLine}
+use Rattle.fields.specs.Fields.{ascii, decimalBy, decimal, markText, answerText}
+use Rattle.lines.specs.Lines.{headerLine, callLine, fileLine, endLine}
 use Rattle.walkfile.specs.Listing.{newTables, tablesLine, lastLines, callLines, walkLines, listingOf}
 
 -- HD with n, flags, Ls and La; TM with kind, L and R; ST with step, run, a, b, m and t. All of them are below 256 here.

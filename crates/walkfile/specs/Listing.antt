@@ -13,7 +13,7 @@ use Rattle.records.specs.declared.header.Header.the-variants as header
 use Rattle.records.specs.Headers.{headerBytes, headerOf}
 use Rattle.records.specs.Calls.{Ending, ended, broken, Calls, callsOf}
 use Rattle.lines.specs.Lines.{headerLine, callLine, fileLine, endLine}
-use Rattle.lines.specs.Placed.{placed}
+use Rattle.fields.specs.Placed.{placed}
 use Rattle.realm.specs.declared.header.Opening.{Opening}
 use Rattle.realm.specs.declared.header.Opening.the-variants as opening
 use Rattle.realm.specs.declared.header.Realm.{Realm}

@@ -17,7 +17,7 @@ use Rattle.records.specs.Records.{recordAt}
 use Rattle.records.specs.Calls.{broken, Calls, callsOf}
 use Rattle.records.specs.Promises.{step-on, none-left, ends, breaks}
 use Rattle.lines.specs.Lines.{headerLine, callLine, fileLine}
-use Rattle.lines.specs.Placed.{placed, Wrote, joined, wrote-as}
+use Rattle.fields.specs.Placed.{placed, Wrote, joined, wrote-as}
 use Rattle.realm.specs.declared.header.Realm.{Realm}
 use Rattle.realm.specs.Tables.{Tables}
 use Rattle.effects.specs.Apply.{Outcome}

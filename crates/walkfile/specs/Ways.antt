@@ -9,7 +9,7 @@ use lib.ListN.{length}
 use Rattle.records.specs.declared.header.Header.the-variants as header
 use Rattle.records.specs.Headers.{headerOf}
 use Rattle.lines.specs.Lines.{fileLine}
-use Rattle.lines.specs.Placed.{Wrote}
+use Rattle.fields.specs.Placed.{Wrote}
 use Rattle.realm.specs.declared.header.Opening.the-variants as opening
 use Rattle.realm.specs.declared.header.Realm.{Realm}
 use Rattle.realm.specs.Opening.{openingOf}

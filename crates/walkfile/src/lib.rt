@@ -19,7 +19,7 @@ use replay::entry::EMPTY;
 ghost use mathlib.Core.Path.{_≡_};
 ghost use Prim.Native.Nat.{_≤_};
 ghost use lib.ListN.{length};
-ghost use Rattle.lines.specs.Placed.{Wrote};
+ghost use Rattle.fields.specs.Placed.{Wrote};
 ghost use Rattle.walkfile.specs.Walking.{Walkable};
 ghost use Rattle.walkfile.specs.Listing.{listingBytes, walkLines, outcome, listed};
 

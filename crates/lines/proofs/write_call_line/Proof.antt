@@ -1,9 +1,9 @@
 -- `lines::write_call_line` meets its contract: its four parts, one after the other. Assumes nothing.
-use Rattle.lines.specs.Placed.{joined}
+use Rattle.fields.specs.Placed.{joined}
 use Prim.Native.Nat.{_≤_}
 use native.Mathlib.Omega.{arith}
 use lib.ListN.{length}
-use Rattle.lines.specs.Decimal.{decimal-short}
+use Rattle.fields.specs.Decimal.{decimal-short}
 use Rattle.lines.specs.Lines.{callLine}
 use borrow.Author.Needs.{needs}
 use Rattle.lines.proofs.write_call_line.Statement.{statement}

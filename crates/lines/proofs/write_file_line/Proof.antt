@@ -1,5 +1,5 @@
 -- `lines::write_file_line` meets its contract: its three parts, one after the other. Assumes nothing.
-use Rattle.lines.specs.Placed.{joined}
+use Rattle.fields.specs.Placed.{joined}
 use Prim.Native.Nat.{_≤_}
 use native.Mathlib.Omega.{arith}
 use lib.ListN.{length}

@@ -13,7 +13,7 @@ use Rattle.records.specs.Promises.{step-on}
 use Rattle.effects.specs.Apply.{after}
 use Rattle.walkfile.proofs.Laws.{not-a-call}
 use Rattle.lines.specs.Lines.{endLine}
-use Rattle.lines.specs.Placed.{wrote-as}
+use Rattle.fields.specs.Placed.{wrote-as}
 use Rattle.lines.specs.Promises.{header-short}
 use Rattle.walkfile.specs.Listing.{newTables, tablesLine}
 use Rattle.walkfile.specs.Walking.{Standing, Ready, recordLines, starts, goes-on, advances, few, ends-whole, ends-broken, ready-as, finishes}

@@ -1,12 +1,12 @@
--- `lines::write_answer` meets its contract, by the four kinds of answer. Assumes nothing.
+-- `fields::write_answer` meets its contract, by the four kinds of answer. Assumes nothing.
 use mathlib.Core.Path.{sym, ap, subst}
 use native.Mathlib.Omega.{arith}
-use Rattle.lines.specs.Lengths.{Narrow, answer-short}
-use Rattle.lines.specs.Lines.{answerText}
-use Rattle.lines.specs.Placed.{wrote-as}
+use Rattle.fields.specs.Lengths.{Narrow, answer-short}
+use Rattle.fields.specs.Fields.{answerText}
+use Rattle.fields.specs.Placed.{wrote-as}
 use borrow.Author.Needs.{needs}
-use Rattle.lines.proofs.write_answer.Statement.{statement}
-use Rattle.lines.proofs.write_answer.Tie as tie
+use Rattle.fields.proofs.write_answer.Statement.{statement}
+use Rattle.fields.proofs.write_answer.Tie as tie
 
 enum-known-answer : tie.Need-enum-known-answer
 enum-known-answer c = search needs

@@ -1,4 +1,4 @@
--- `lines::write_text` meets its contract: the kit's copy, into the part from the offset on. Assumes nothing.
+-- `fields::write_text` meets its contract: the kit's copy, into the part from the offset on. Assumes nothing.
 use mathlib.Core.List.{List, _++_, append-assoc, append-nil}
 use mathlib.Core.Path.{_≡_, sym, ap}
 use Prim.Native.Nat.{ℕ, _+_, _-_, _≤_}
@@ -6,10 +6,10 @@ use native.Mathlib.Omega.{arith}
 use lib.ListN.{length, take, drop, length-drop, drop-of-length-le}
 use lib.Seq.{take-all, drop-drop, take-length}
 use borrow.Rule.Slice.PartMut.{midOf, putMid}
-use Rattle.lines.specs.Placed.{placed, Wrote}
+use Rattle.fields.specs.Placed.{placed, Wrote}
 use borrow.Author.Needs.{needs}
-use Rattle.lines.proofs.write_text.Statement.{statement}
-use Rattle.lines.proofs.write_text.Tie as tie
+use Rattle.fields.proofs.write_text.Statement.{statement}
+use Rattle.fields.proofs.write_text.Tie as tie
 
 -- what the copy leaves in the part from `at` on, as a part of the whole
 copied : (xs text : List ℕ) (at : ℕ) {n : ℕ} {part : List ℕ} → at + length text ≤ length xs

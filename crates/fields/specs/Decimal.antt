@@ -10,7 +10,7 @@ use borrow.Author.Tests.{lt-ltb, le-ltb, ltb-true, ltb-false}
 use lib.Dec.{ltb}
 use lib.ListN.{length, getD, length-append, List·getD-append}
 use Rattle.io.specs.Digits.{digits, glyph, Fewest}
-use Rattle.lines.specs.Lines.{decimalBy, decimal}
+use Rattle.fields.specs.Fields.{decimalBy, decimal}
 
 -- ---- one digit, and one more
 

@@ -1,10 +1,10 @@
--- `lines::write_mark` meets its contract, by the two kinds of call. Assumes nothing.
-use Rattle.lines.specs.Lines.{markText}
-use Rattle.lines.specs.Placed.{wrote-as}
+-- `fields::write_mark` meets its contract, by the two kinds of call. Assumes nothing.
+use Rattle.fields.specs.Fields.{markText}
+use Rattle.fields.specs.Placed.{wrote-as}
 use mathlib.Core.Path.{sym, ap}
 use borrow.Author.Needs.{needs}
-use Rattle.lines.proofs.write_mark.Statement.{statement}
-use Rattle.lines.proofs.write_mark.Tie as tie
+use Rattle.fields.proofs.write_mark.Statement.{statement}
+use Rattle.fields.proofs.write_mark.Tie as tie
 
 enum-told : tie.Need-enum-told
 enum-told c = search needs

@@ -1,15 +1,15 @@
--- `lines::write_number` meets its contract: the kit's fewest digits are the decimal ones. Assumes nothing.
+-- `fields::write_number` meets its contract: the kit's fewest digits are the decimal ones. Assumes nothing.
 use mathlib.Core.List.{List}
 use mathlib.Core.Path.{_≡_, _∙_}
 use Prim.Native.Nat.{ℕ, _^_, _<_, _≤_}
 use lib.ListN.{length}
-use Rattle.lines.specs.Lines.{decimal}
-use Rattle.lines.specs.Placed.{wrote-as}
-use Rattle.lines.specs.Decimal.{decimal-fewest, decimal-short}
+use Rattle.fields.specs.Fields.{decimal}
+use Rattle.fields.specs.Placed.{wrote-as}
+use Rattle.fields.specs.Decimal.{decimal-fewest, decimal-short}
 use native.Mathlib.Omega.{arith}
 use borrow.Author.Needs.{needs}
-use Rattle.lines.proofs.write_number.Statement.{statement}
-use Rattle.lines.proofs.write_number.Tie as tie
+use Rattle.fields.proofs.write_number.Statement.{statement}
+use Rattle.fields.proofs.write_number.Tie as tie
 
 -- ten bytes are enough for the digits
 text-short : (n : ℕ) {text : List ℕ} → n < 2 ^ 32 → text ≡ decimal n → length text ≤ 10

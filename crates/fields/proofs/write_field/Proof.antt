@@ -1,9 +1,9 @@
--- `lines::write_field` meets its contract: a text and a number, one after the other. Assumes nothing.
-use Rattle.lines.specs.Placed.{joined}
+-- `fields::write_field` meets its contract: a text and a number, one after the other. Assumes nothing.
+use Rattle.fields.specs.Placed.{joined}
 use native.Mathlib.Omega.{arith}
 use borrow.Author.Needs.{needs}
-use Rattle.lines.proofs.write_field.Statement.{statement}
-use Rattle.lines.proofs.write_field.Tie as tie
+use Rattle.fields.proofs.write_field.Statement.{statement}
+use Rattle.fields.proofs.write_field.Tie as tie
 
 write-text-requires : tie.Need-write-text-requires
 write-text-requires c κs = search needs
