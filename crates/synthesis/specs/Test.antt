@@ -1,5 +1,5 @@
--- The test as a function: sweeps until one adds nothing, then the descent. The code remembers what it put together; here
--- nothing is remembered, and the answer is the same, since both decide `Derivable`.
+-- The test as a function: sweeps until one adds nothing, then the descent. The code keeps a list in place of sweeps and
+-- remembers what it put together; the answer is the same, since both decide `Derivable`.
 -- Assumes nothing.
 use mathlib.Core.Path.{_≡_, refl, subst}
 use mathlib.Core.Bool.{Bool, true, false}
