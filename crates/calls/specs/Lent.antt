@@ -11,7 +11,7 @@ use Rattle.exchange.specs.declared.call.Call.{Call}
 use Rattle.replay.specs.declared.entry.Entry.{Entry}
 use Rattle.realm.specs.Tables.{Tables, tables}
 use Rattle.effects.specs.Apply.{Outcome, refuse}
-use Rattle.engine.specs.Call.{checked}
+use Rattle.effects.specs.Call.{checked}
 use Rattle.calls.specs.declared.Called.{Called}
 
 -- what the code gave back, beside the lent tables

@@ -5,7 +5,7 @@
 use mathlib.Core.Option.{Option, none, some}
 use Prim.Native.Nat.{ℕ}
 use lib.Dec.{eqb}
-use Rattle.exchange.specs.Terms.{given}
+use Rattle.traces.specs.Terms.{given}
 use Rattle.terms.specs.Choice.{pick, both}
 use Rattle.terms.specs.Message.{Message}
 use Rattle.layers.specs.Layers.{PRINCIPAL, TIME, LONG_TERM_KEY, SESSION_KEY, PAIR, ofKind, operands, atom, first, under, _▸_}

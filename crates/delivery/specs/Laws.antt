@@ -9,7 +9,7 @@ use Prim.Native.Nat.{ℕ}
 use native.Mathlib.Omega.{arith}
 use borrow.Author.Tests.{eqb-true, eq-eqb, ne-eqb}
 use lib.Dec.{eqb}
-use Rattle.exchange.specs.Messages.{ticket, authenticator}
+use Rattle.kerberos.specs.Messages.{ticket, authenticator}
 use Rattle.terms.specs.Choice.{pick, both}
 use Rattle.terms.specs.Message.{Message, pair}
 use Rattle.layers.specs.Layers.{TIME, PAIR, ofKind, operands}

@@ -5,7 +5,7 @@
 use mathlib.Core.Logic.{_↔_}
 use mathlib.Core.Path.{_≡_}
 use Prim.Native.Nat.{ℕ}
-use Rattle.exchange.specs.Messages.{ticket, authenticator}
+use Rattle.kerberos.specs.Messages.{ticket, authenticator}
 use Rattle.terms.specs.Message.{Message, pair}
 use Rattle.delivery.specs.declared.Authenticator.the-variants as authenticators
 use Rattle.delivery.specs.declared.Delivery.the-variants as deliveries

@@ -1,2 +1,4 @@
--- The laws by which `apply` meets its contract, one for each way out.
+-- The laws by which the functions meet their contracts, one for each way out.
+pub mod Row
+pub mod Cache
 pub mod Apply

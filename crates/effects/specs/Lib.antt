@@ -1,3 +1,6 @@
 pub mod Promises
 pub mod Apply
+pub mod Call
+pub mod Row
+pub mod Cache
 pub mod Laws

@@ -1,6 +1,4 @@
-pub mod Promises
+-- The laws by which a call meets its contract, which has the answer and every table afterwards: `called` and `checked` of
+-- effects/Call.
 pub mod Call
-pub mod Kept
-pub mod Cases
-pub mod Engine
 pub mod Ways

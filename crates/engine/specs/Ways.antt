@@ -10,26 +10,34 @@ use Rattle.words.specs.Word.{packed}
 use Rattle.terms.specs.Add.{addOf, Adds, adds}
 use Rattle.terms.specs.Valid.{Valid}
 use Rattle.terms.specs.Outcome as terms
-use Rattle.exchange.specs.declared.call.Answer.{Answer}
 use Rattle.exchange.specs.declared.call.Call.{Call}
 use Rattle.exchange.specs.declared.call.Call.the-variants as calls
-use Rattle.exchange.specs.declared.event.Event.{Event}
 use Rattle.realm.specs.declared.input.Step.{Step}
 use Rattle.realm.specs.Check.{together}
-use Rattle.realm.specs.Tables.{Tables, tables}
-use Rattle.receiving.specs.declared.Verdict.the-variants.{Takes, Refused}
-use Rattle.steps.specs.Decide.{decided}
+use Rattle.realm.specs.Tables.{Tables}
+use Rattle.decisions.specs.declared.Effect.{Effect}
+use Rattle.decisions.specs.declared.Verdict.the-variants.{Takes, Refused}
+use Rattle.decisions.specs.declared.Verdict.{Verdict}
+use Rattle.decisions.specs.Decision.{decision}
+use Rattle.sending.specs.declared.Prepared.{Prepared}
+use Rattle.deciding.specs.Decided.{Writable, Planned}
 use Rattle.effects.specs.Apply.{refuse, applied}
-use Rattle.engine.specs.Call.{Adding, adding, withTerm, byVerdict, stepped, called, checked}
+use Rattle.effects.specs.Call.{Adding, adding, withTerm, byVerdict, stepped, called, checked}
+
+-- ---- ST
 
 module _ (t : Tables) (s : Step) where
-  pub step-refused : {k : ℕ} → decided t s ≡ Refused k → refuse t k ≡ stepped t s
+  pub step-refused : {k : ℕ} → decision t s ≡ Refused k → refuse t k ≡ stepped t s
   unfolding stepped
   step-refused e = sym (ap (byVerdict t) e)
 
-  pub step-taken : {e : Event} → decided t s ≡ Takes e → applied t e ≡ stepped t s
+  pub step-taken : {x : Effect} → decision t s ≡ Takes x → applied t x ≡ stepped t s
   unfolding stepped
   step-taken e = sym (ap (byVerdict t) e)
+
+-- what a verdict that takes says of its plan
+pub writable : (t : Tables) {v : Verdict} {x : Effect} {r : Prepared} → v ≡ Takes x → Planned t v r → Writable t x r
+writable t {r = r} e w = subst (λ (v : Verdict). Planned t v r) e w
 
 module _ (t : Tables) (c : Call) where
   pub check-refused : together t ≡ false → refuse t 10 ≡ checked t c

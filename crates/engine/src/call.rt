@@ -1,13 +1,13 @@
 // A call on tables that hold together, for a caller that made them itself. Everything is decided before anything is written.
+use deciding::decide::decide;
+use decisions::Verdict;
 use effects::apply::After;
 use effects::apply::apply;
 use exchange::call::Answer;
 use exchange::call::Call;
 use realm::header::Realm;
 use realm::input::Step;
-use receiving::Verdict;
 use replay::entry::Entry;
-use steps::decide::decide;
 use terms::table::Added;
 use terms::table::add;
 use words::pack;
@@ -17,7 +17,8 @@ ghost use Rattle.terms.specs.Add.{addOf};
 ghost use Rattle.terms.specs.Valid.{Valid};
 ghost use Rattle.effects.specs.Apply.{after};
 ghost use Rattle.realm.specs.Tables.{tables, Together};
-ghost use Rattle.engine.specs.Call.{termed, adding, stepped, called};
+ghost use Rattle.effects.specs.Call.{adding, stepped, called};
+ghost use Rattle.engine.specs.Call.{termed};
 
 // A realm after a term was added, and the answer.
 pub struct Termed {
@@ -63,13 +64,16 @@ fn take_step(
     requires { ⌜ Together (tables h (now terms) (now runs) (now wire) cache) ⌝ }
     ensures { λ r. ⌜ after r (now (terms .exit)) (now (runs .exit)) (now (wire .exit)) ≡ stepped (tables h (now (terms .entry)) (now (runs .entry)) (now (wire .entry)) cache) s ⌝ }
 {
-    match decide(h, terms, runs, wire, cache, s) {
+    let decision = decide(h, terms, runs, wire, cache, s);
+    let verdict = decision.verdict;
+    let prepared = decision.prepared;
+    match verdict {
         Verdict::Refused(number) => After {
             realm: h,
             cache,
             answer: Answer::Refused(number),
         },
-        Verdict::Takes(event) => apply(h, terms, runs, wire, cache, event),
+        Verdict::Takes(effect) => apply(h, terms, runs, wire, cache, effect, prepared),
     }
 }
 

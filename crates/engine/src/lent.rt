@@ -11,7 +11,7 @@ use terms::rules::REFUSE_TABLES;
 ghost use mathlib.Core.Path.{_≡_};
 ghost use Rattle.effects.specs.Apply.{after};
 ghost use Rattle.realm.specs.Tables.{tables};
-ghost use Rattle.engine.specs.Call.{checked};
+ghost use Rattle.effects.specs.Call.{checked};
 
 // Adds a term or takes a step, if the tables hold together.
 pub fn checked_call(

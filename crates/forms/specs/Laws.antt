@@ -6,7 +6,7 @@ use mathlib.Core.Option.{Option, none, some}
 use mathlib.Core.Path.{_≡_, refl, sym, ap}
 use Prim.Native.Nat.{ℕ}
 use native.Mathlib.Omega.{arith}
-use Rattle.exchange.specs.Messages.{request, reply, confirmation}
+use Rattle.kerberos.specs.Messages.{parallel, request, reply, confirmation}
 use Rattle.terms.specs.Message.{Message}
 use Rattle.layers.specs.Layers.{TIME, NONCE}
 use Rattle.layers.specs.Laws.Layers.{reads-atom, reads-▸, principal-first, time-first, key-first, under-key, under-session, exactly}
@@ -35,7 +35,7 @@ reply-inv : (k b ts n a : ℕ) (o : Option (ℕ × (ℕ × (ℕ × (ℕ × ℕ))
 reply-inv k b ts n a none e = cc
 reply-inv k b ts n a (some (a′, (k′, (b′, (ts′, n′))))) e = cc
 
-pub reply-form : (m : Message) (k b ts n a : ℕ) → (replyIn m ≡ replies.Is k b ts n a) ↔ (m ≡ reply k b ts n a)
+pub reply-form : (m : Message) (k b ts n a : ℕ) → (replyIn m ≡ replies.Is k b ts n a) ↔ (m ≡ reply parallel k b ts n a)
 unfolding replyIn
 reply-form m k b ts n a =
     exactly (reads-▸ under-key (reads-▸ key-first (reads-▸ principal-first (reads-▸ time-first (reads-atom NONCE (omega arith))))))

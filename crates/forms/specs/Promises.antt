@@ -5,7 +5,7 @@
 use mathlib.Core.Logic.{_↔_}
 use mathlib.Core.Path.{_≡_}
 use Prim.Native.Nat.{ℕ}
-use Rattle.exchange.specs.Messages.{request, reply, confirmation}
+use Rattle.kerberos.specs.Messages.{parallel, request, reply, confirmation}
 use Rattle.terms.specs.Message.{Message}
 use Rattle.forms.specs.declared.Confirmation.the-variants as confirmations
 use Rattle.forms.specs.declared.Reply.the-variants as replies
@@ -17,7 +17,7 @@ module _ (m : Message) where
   pub is-request : (a b n : ℕ) → (requestIn m ≡ requests.Is a b n) ↔ (m ≡ request a b n)
   is-request = request-form m
 
-  pub is-reply : (k b ts n a : ℕ) → (replyIn m ≡ replies.Is k b ts n a) ↔ (m ≡ reply k b ts n a)
+  pub is-reply : (k b ts n a : ℕ) → (replyIn m ≡ replies.Is k b ts n a) ↔ (m ≡ reply parallel k b ts n a)
   is-reply = reply-form m
 
   pub is-confirmation : (ta k : ℕ) → (confirmationIn m ≡ confirmations.Is ta k) ↔ (m ≡ confirmation ta k)

@@ -5,7 +5,7 @@
 use mathlib.Core.Option.{Option, none, some}
 use Prim.Native.Nat.{ℕ}
 use lib.Dec.{eqb}
-use Rattle.exchange.specs.Terms.{given}
+use Rattle.traces.specs.Terms.{given}
 use Rattle.terms.specs.Choice.{pick}
 use Rattle.terms.specs.Message.{longTerm, session, Message, principal, time, nonce, key, pair, encrypted}
 

@@ -6,7 +6,7 @@ use mathlib.Core.Path.{_≡_, refl}
 use Prim.Native.Nat.{ℕ, _<_, _≤_}
 use borrow.Author.Tests.{lt-ltb, le-leb}
 use Rattle.drafts.specs.Draft.{draftMessage, draftFits, nodesFit}
-use Rattle.exchange.specs.Messages.{request, reply, ticket, authenticator, confirmation}
+use Rattle.kerberos.specs.Messages.{parallel, request, reply, ticket, authenticator, confirmation}
 use Rattle.terms.specs.Descend.{descend, layers}
 use Rattle.terms.specs.Message.{session, Message, key}
 use Rattle.layouts.specs.Drafts.{REQUEST_ROOT, REPLY_ROOT, TICKET_ROOT, AUTHENTICATOR_ROOT, CONFIRMATION_ROOT, KEY_ROOT}
@@ -18,7 +18,7 @@ module _ (stored : ℕ → Message) where
   unfolding requestDraft draftMessage descend layers
   request-at a b n = refl
 
-  pub reply-at : (k a b ts n : ℕ) → draftMessage stored (issueDraft k a b ts n) REPLY_ROOT ≡ reply k b ts n a
+  pub reply-at : (k a b ts n : ℕ) → draftMessage stored (issueDraft k a b ts n) REPLY_ROOT ≡ reply parallel k b ts n a
   unfolding issueDraft draftMessage descend layers
   reply-at k a b ts n = refl
 

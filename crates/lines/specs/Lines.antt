@@ -4,7 +4,7 @@
 use mathlib.Core.List.{List, [], _∷_, _++_}
 use Prim.Native.Nat.{ℕ, suc}
 use lib.ListN.{length}
-use Rattle.exchange.specs.Reading.{History}
+use Rattle.traces.specs.RuleSets.{History}
 use Rattle.exchange.specs.declared.call.Answer.{Answer}
 use Rattle.exchange.specs.declared.call.Call.{Call}
 use Rattle.fields.specs.Fields.{ascii, decimal, field, markText, answerText}

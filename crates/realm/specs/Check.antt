@@ -1,7 +1,7 @@
 -- The check of refusal 10 as a test that computes. `Together` says what holds where it answers true.
 -- Assumes nothing.
 use Prim.Native.Nat.{ℕ, _^_, _<_, _≤_}
-use mathlib.Core.Path.{_≡_, refl, sym, _∙_}
+use mathlib.Core.Path.{_≡_, sym, _∙_}
 use borrow.Author.Tests.{le-leb, lt-leb, leb-true, ltb-true, lt-ltb, eq-eqb, ne-eqb, eqb-true}
 use mathlib.Core.Bool.{Bool, true, false, _&&_}
 use mathlib.Core.List.{List}
@@ -10,14 +10,21 @@ use lib.ListN.{length, getD}
 use Rattle.marks.specs.Marks.{marked}
 use Rattle.marks.specs.Within.{within, within-is, is-within}
 use Rattle.terms.specs.Valid.{holds, holds-valid, valid-holds}
-use Rattle.rows.specs.AllOf.{each, each-true, true-each, five}
+use Rattle.terms.specs.AllOf.{and-true, each, each-true, true-each, five}
 use Rattle.runs.specs.Promises.{rows-decided}
 use Rattle.terms.specs.Choice.{no-true, is-false}
 use Rattle.runs.specs.Lent.{rowsHold}
 use Rattle.replay.specs.declared.entry.Entry.{Entry}
+use Rattle.realm.specs.declared.header.Realm.{Realm}
 use Rattle.realm.specs.Opening.{headerFits}
 use Rattle.realm.specs.Header.{fits-header, header-fits}
 use Rattle.realm.specs.Tables.{Tables, EntryFits, empty, Together}
+
+-- "Times are 32 bits without sign"
+pub record Narrow (h : Realm) : Type 0 where
+  pub ls : h .ls < 2 ^ 32
+  pub la : h .la < 2 ^ 32
+  pub clock : h .clock < 2 ^ 32
 
 -- words of 64 bits
 abbrev pub WordsFit : List ℕ → Type 0
@@ -46,10 +53,6 @@ together t =
     && entriesHold (h .n) (t .cache) (h .entries)
 
 -- ---- by the way out
-
-and-true : (a b : Bool) → (a && b) ≡ true → (a ≡ true) × (b ≡ true)
-and-true true b h = (refl, h)
-and-true false b h = no-true h
 
 module _ (n : ℕ) (cache : List Entry) (count : ℕ) where
   pub over-limit : 16 < count → false ≡ entriesHold n cache count
@@ -91,9 +94,9 @@ module _ (ws : List ℕ) (count : ℕ) where
   wire-is e = let p = and-true (eqb (length ws) 8) (within ws count) e in (eqb-true (length ws) 8 (p .0), within-is ws count (p .1))
 
 -- the test says that the tables hold together, where the fields have their widths
-pub together-is : (t : Tables) → t .realm .ls < 2 ^ 32 → t .realm .la < 2 ^ 32 → WordsFit (t .wire) → length (t .cache) ≡ 16 → together t ≡ true → Together t
+pub together-is : (t : Tables) → Narrow (t .realm) → WordsFit (t .wire) → length (t .cache) ≡ 16 → together t ≡ true → Together t
 unfolding together
-together-is t hs ha w places e =
+together-is t z w places e =
     let h = t .realm in
     let f =
     five (headerFits (h .n) (h .flags) (h .ls) (h .la)) (holds (h .n) (t .terms) (h .terms)) (rowsHold (h .n) (t .runs) (h .runs) (t .terms) (h .terms))
@@ -101,7 +104,8 @@ together-is t hs ha w places e =
     let wire = wire-is (t .wire) (h .terms) (f .fourth) in
     let es = entries-are (h .n) (t .cache) (h .entries) (f .fifth) in
     record {
-      header-fits = fits-header (h .n) (h .flags) (h .ls) (h .la) hs ha (f .first);
+      header-fits = fits-header (h .n) (h .flags) (h .ls) (h .la) (z .ls) (z .la) (f .first);
+      clock-fits = z .clock;
       terms-hold = holds-valid (h .n) (t .terms) (h .terms) (f .second);
       rows-hold = rows-decided (h .n) (t .runs) (h .runs) (t .terms) (h .terms) .0 (f .third);
       wire-words = record { len = wire .0; fit = w };

@@ -12,8 +12,8 @@ use lib.Pow.{shr-shr, pow-pos}
 use Rattle.marks.specs.Bits.{bit, bit-zero, bit-suc, bit-past, bit-small}
 use Rattle.marks.specs.Marks.{isSet, is-set, set-is}
 use Rattle.terms.specs.Choice.{no-true, is-false}
-use Rattle.exchange.specs.Realm as exchange
-use Rattle.exchange.specs.Realm.{Header}
+use Rattle.traces.specs.Realm as exchange
+use Rattle.traces.specs.Realm.{Header}
 use Rattle.realm.specs.Opening.{headerFits}
 
 -- a header by its values

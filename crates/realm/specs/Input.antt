@@ -9,7 +9,8 @@ use mathlib.Core.Bool.{Bool, true, false, not, _&&_, _||_}
 use mathlib.Core.List.{List, [], _∷_}
 use lib.Dec.{ltb, leb, eqb}
 use lib.ListN.{getD, List·getD-eq-default}
-use Rattle.terms.specs.Choice.{pick, no-true}
+use Rattle.terms.specs.AllOf.{and-true}
+use Rattle.terms.specs.Choice.{pick}
 use Rattle.runs.specs.Lent.{principalsFit}
 use Rattle.realm.specs.declared.header.Realm.{Realm}
 use Rattle.realm.specs.declared.input.Step.{Step}
@@ -127,10 +128,6 @@ all-three true true true e = (refl, refl, refl)
 all-three true true false e = absurd (omega arith)
 all-three true false c e = absurd (omega arith)
 all-three false b c e = absurd (omega arith)
-
-and-true : (a b : Bool) → (a && b) ≡ true → (a ≡ true) × (b ≡ true)
-and-true true b e = (refl, e)
-and-true false b e = no-true e
 
 pub passed : (h : Realm) (s : Step) → inputRefusal h s ≡ 0 → Passed h s
 unfolding inputRefusal

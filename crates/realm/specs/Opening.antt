@@ -8,7 +8,7 @@ use mathlib.Core.Bool.{Bool, true, false, not, _&&_}
 use lib.Dec.{ltb, leb, eqb}
 use Rattle.marks.specs.Marks.{isSet}
 use Rattle.terms.specs.Choice.{pick}
-use Rattle.exchange.specs.Realm as exchange
+use Rattle.traces.specs.Realm as exchange
 use Rattle.realm.specs.declared.header.Opening.{Opening}
 use Rattle.realm.specs.declared.header.Opening.the-variants.{Open, Refused}
 use Rattle.realm.specs.declared.header.Realm.{Realm}

@@ -6,11 +6,11 @@ use mathlib.Core.Path.{_≡_}
 use mathlib.Core.Bool.{true}
 use mathlib.Core.Logic.{_↔_}
 use lib.ListN.{length}
-use Rattle.exchange.specs.Realm.{Header}
+use Rattle.traces.specs.Realm.{Header}
 use Rattle.realm.specs.declared.header.Realm.{Realm}
 use Rattle.realm.specs.declared.input.Step.{Step}
 use Rattle.realm.specs.Check as checks
-use Rattle.realm.specs.Check.{WordsFit, together}
+use Rattle.realm.specs.Check.{Narrow, WordsFit, together}
 use Rattle.realm.specs.Header.{values, fits-header, header-fits}
 use Rattle.realm.specs.Input.{inputRefusal, Passed, passed, passed-back}
 use Rattle.realm.specs.Opening.{headerFits}
@@ -25,6 +25,5 @@ pub input-exact : (h : Realm) (s : Step) → (inputRefusal h s ≡ 0) ↔ Passed
 input-exact h s = (passed h s, passed-back h s)
 
 -- The check of tables says exactly that they hold together, where their words and fields have their widths.
-pub check-exact : (t : Tables) → t .realm .flags < 2 ^ 16 → t .realm .ls < 2 ^ 32 → t .realm .la < 2 ^ 32 → WordsFit (t .wire) → length (t .cache) ≡ 16
-    → (together t ≡ true) ↔ Together t
-check-exact t hf hs ha w places = (checks.together-is t hs ha w places, checks.is-together t hf)
+pub check-exact : (t : Tables) → t .realm .flags < 2 ^ 16 → Narrow (t .realm) → WordsFit (t .wire) → length (t .cache) ≡ 16 → (together t ≡ true) ↔ Together t
+check-exact t hf z w places = (checks.together-is t z w places, checks.is-together t hf)

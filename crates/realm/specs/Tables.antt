@@ -1,7 +1,7 @@
 -- The tables of a realm as they are lent, the cache by value, and when they hold together: what refusal 10 looks at (document
 -- 01, "What turns a record away, from the state").
 -- Assumes nothing.
-use Prim.Native.Nat.{ℕ, _<_, _≤_}
+use Prim.Native.Nat.{ℕ, _^_, _<_, _≤_}
 use mathlib.Core.Path.{_≡_}
 use mathlib.Core.Bool.{true}
 use mathlib.Core.List.{List}
@@ -10,7 +10,7 @@ use Rattle.marks.specs.Marks.{Words, marked}
 use Rattle.terms.specs.Valid.{Valid}
 use Rattle.runs.specs.Lent.{RowsHold}
 use Rattle.replay.specs.declared.entry.Entry.{Entry}
-use Rattle.exchange.specs.Realm.{Header}
+use Rattle.traces.specs.Realm.{Header}
 use Rattle.realm.specs.declared.header.Realm.{Realm}
 use Rattle.realm.specs.Opening.{header}
 
@@ -36,6 +36,8 @@ empty = record { b = 0; k = 0; ta = 0 }
 pub record Together (t : Tables) : Type 0 where
   -- not "a header value as in 2"
   pub header-fits : Header (header (t .realm))
+  -- "Times are 32 bits"
+  pub clock-fits : t .realm .clock < 2 ^ 32
   -- not "a term that breaks the term rules, 5 or 6 or repeats", and the full number of places
   pub terms-hold : Valid (t .realm .n) (t .terms) (t .realm .terms)
   -- not "a run with an unknown role, .. a server run whose K is not its own number or whose key is not a term"

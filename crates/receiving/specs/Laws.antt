@@ -7,7 +7,7 @@ use mathlib.Core.Path.{_≡_}
 use lib.Dec.{eqb}
 use borrow.Author.Tests.{lt-ltb, le-ltb, eq-eqb, ne-eqb}
 use Rattle.terms.specs.Meaning.{messageAt}
-use Rattle.exchange.specs.declared.event.Event.the-variants.{Issue, Authenticate, Accept, Finish}
+use Rattle.decisions.specs.Effects.{issuing, authenticating, accepting, finishing}
 use Rattle.exchange.specs.declared.run.Row.{Row}
 use Rattle.layers.specs.Promises.{in-range}
 use Rattle.forms.specs.Forms.{requestIn, replyIn, confirmationIn}
@@ -20,9 +20,9 @@ use Rattle.delivery.specs.Promises.{is-delivery}
 use Rattle.delivery.specs.declared.Delivery.the-variants as deliveries
 use Rattle.replay.specs.declared.entry.Entry.{Entry}
 use Rattle.realm.specs.declared.header.Realm.{Realm}
-use Rattle.receiving.specs.declared.Verdict.the-variants.{Takes, Refused}
+use Rattle.decisions.specs.declared.Verdict.the-variants.{Takes, Refused}
 use Rattle.conditions.specs.Conditions.{Delivers, derivableAt, ticketLives, admission}
-use Rattle.receiving.specs.Take.{issues, authenticates, takes, finishes}
+use Rattle.decisions.specs.Decision.{issues, authenticates, takes, finishes}
 
 -- ---- step 3
 
@@ -46,7 +46,7 @@ module _ (h : Realm) (ts ws : List ℕ) (m : ℕ) where
         unfolding issues
         request-underivable p = rw (lt-ltb (h .runs) 64 room, is, apart, p)
 
-        pub request-taken : derivableAt h ts ws m ≡ true → Takes (Issue (h .runs) a b (h .clock) n) ≡ issues h ts ws m
+        pub request-taken : derivableAt h ts ws m ≡ true → Takes (issuing (h .clock) (h .runs) a b n) ≡ issues h ts ws m
         unfolding issues
         request-taken p = rw (lt-ltb (h .runs) 64 room, is, apart, p)
 
@@ -72,7 +72,7 @@ module _ (h : Realm) (ts ws : List ℕ) (r : ℕ) (own : Row) (m : ℕ) where
         unfolding authenticates
         reply-over p = rw (is, mine, derivable, p)
 
-        pub reply-taken : ticketLives h ts′ ≡ true → Takes (Authenticate r (own .a) (own .b) k ts′ (h .clock)) ≡ authenticates h ts ws r own m
+        pub reply-taken : ticketLives h ts′ ≡ true → Takes (authenticating (h .clock) r (own .a) (own .b) k ts′) ≡ authenticates h ts ws r own m
         unfolding authenticates
         reply-taken p = rw (is, mine, derivable, p)
 
@@ -98,7 +98,7 @@ module _ (h : Realm) (ts ws : List ℕ) (cache : List Entry) (r : ℕ) (own : Ro
         unfolding takes
         delivery-barred p = rw (is, mine, derivable, ← admits, ne-eqb number 0 p)
 
-        pub delivery-taken : number ≡ 0 → Takes (Accept r (own .a) (own .b) k ts′ ta) ≡ takes h ts ws cache r own m
+        pub delivery-taken : number ≡ 0 → Takes (accepting (h .clock) r (own .a) (own .b) k ts′ ta) ≡ takes h ts ws cache r own m
         unfolding takes
         delivery-taken p = rw (is, mine, derivable, ← admits, eq-eqb number 0 p)
 
@@ -125,7 +125,7 @@ module _ (h : Realm) (ts ws : List ℕ) (r : ℕ) (own : Row) (m : ℕ) where
         confirmation-over p = rw (is, mine, derivable, p)
 
         pub confirmation-taken : ticketLives h (own .ts) ≡ true
-            → Takes (Finish r (own .a) (own .b) (own .k) (own .ts) (own .ta)) ≡ finishes h ts ws r own m
+            → Takes (finishing (h .clock) r (own .a) (own .b) (own .k) (own .ts) (own .ta)) ≡ finishes h ts ws r own m
         unfolding finishes
         confirmation-taken p = rw (is, mine, derivable, p)
 

@@ -1,5 +1,3 @@
--- The steps that take a message. Promises is to be read first.
-pub mod Promises
-pub mod Take
+-- The laws by which the steps that take a message meet their contracts, which answer `issues`, `authenticates`, `takes` and `finishes`
+-- of decisions/Decision.
 pub mod Laws
-pub mod Refusals

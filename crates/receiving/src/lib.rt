@@ -4,10 +4,16 @@ use conditions::REFUSE_TICKET;
 use conditions::admit;
 use conditions::can_deliver;
 use conditions::ticket_lives;
+use decisions::Keeping;
+use decisions::Sends;
+use decisions::Verdict;
+use decisions::advance;
+use decisions::open_run;
 use delivery::Delivery;
 use delivery::open_delivery;
-use exchange::event::Event;
+use exchange::run::Role;
 use exchange::run::Row;
+use exchange::run::Stage;
 use forms::Confirmation;
 use forms::Reply;
 use forms::Request;
@@ -20,19 +26,13 @@ use rows::MAX_RUNS;
 ghost use mathlib.Core.Path.{_≡_};
 ghost use Prim.Native.Nat.{_≤_};
 ghost use Rattle.conditions.specs.Conditions.{Delivers};
-ghost use Rattle.receiving.specs.Take.{issues, authenticates, takes, finishes};
+ghost use Rattle.decisions.specs.Decision.{issues, authenticates, takes, finishes};
 
 pub const REFUSE_RUNS_FULL: u8 = 13;
 
 pub const REFUSE_FORM: u8 = 14;
 
 pub const REFUSE_UNDERIVABLE: u8 = 15;
-
-// What a step comes to: the event that it is, or the number of its refusal.
-pub enum Verdict {
-    Takes(Event),
-    Refused(u8),
-}
 
 // Step 3: the server answers a request.
 pub fn issue(h: Realm, terms: &[u64], wire: &[u64], m: u16) -> Verdict
@@ -51,13 +51,28 @@ pub fn issue(h: Realm, terms: &[u64], wire: &[u64], m: u16) -> Verdict
     if !can_deliver(h, terms, wire, m) {
         return Verdict::Refused(REFUSE_UNDERIVABLE);
     }
-    Verdict::Takes(Event::Issue {
-        r: h.runs as u8,
-        a: a as u8,
-        b: b as u8,
+    let r = h.runs as u8;
+    let key = r as u16;
+    let initiator = a as u8;
+    let responder = b as u8;
+    let sends = Sends::Issue {
+        k: key,
+        a,
+        b,
         ts: h.clock,
         n,
-    })
+    };
+    open_run(
+        h.clock,
+        Role::Server,
+        Stage::Done,
+        r,
+        initiator,
+        responder,
+        r,
+        h.clock,
+        sends,
+    )
 }
 
 // Step 4: the initiator takes the server's reply to its own request.
@@ -77,14 +92,26 @@ pub fn authenticate(h: Realm, terms: &[u64], wire: &[u64], run: u8, own: Row, m:
     if !ticket_lives(h, ts) {
         return Verdict::Refused(REFUSE_TICKET);
     }
-    Verdict::Takes(Event::Authenticate {
-        r: run,
-        a: own.a,
-        b: own.b,
-        k: k as u8,
-        ts,
+    let key = k as u8;
+    let initiator = own.a as u16;
+    let sends = Sends::Authenticator {
+        a: initiator,
         ta: h.clock,
-    })
+        k,
+    };
+    advance(
+        h.clock,
+        Role::Initiator,
+        Stage::Authenticated,
+        run,
+        own.a,
+        own.b,
+        key,
+        ts,
+        h.clock,
+        Keeping::Same,
+        sends,
+    )
 }
 
 // Step 5: the responder takes a ticket and an authenticator.
@@ -113,14 +140,27 @@ pub fn accept(
     if number != 0 {
         return Verdict::Refused(number);
     }
-    Verdict::Takes(Event::Accept {
-        r: run,
-        a: own.a,
-        b: own.b,
-        k: k as u8,
+    let key = k as u8;
+    let responder = own.b as u16;
+    let keeping = Keeping::Remember(Entry {
+        b: responder,
+        k,
+        ta,
+    });
+    let sends = Sends::Confirmation { ta, k };
+    advance(
+        h.clock,
+        Role::Responder,
+        Stage::Done,
+        run,
+        own.a,
+        own.b,
+        key,
         ts,
         ta,
-    })
+        keeping,
+        sends,
+    )
 }
 
 // Step 6: the initiator takes the responder's confirmation of its own values.
@@ -140,12 +180,17 @@ pub fn finish(h: Realm, terms: &[u64], wire: &[u64], run: u8, own: Row, m: u16) 
     if !ticket_lives(h, own.ts) {
         return Verdict::Refused(REFUSE_TICKET);
     }
-    Verdict::Takes(Event::Finish {
-        r: run,
-        a: own.a,
-        b: own.b,
-        k: own.k,
-        ts: own.ts,
-        ta: own.ta,
-    })
+    advance(
+        h.clock,
+        Role::Initiator,
+        Stage::Done,
+        run,
+        own.a,
+        own.b,
+        own.k,
+        own.ts,
+        own.ta,
+        Keeping::Same,
+        Sends::Nothing,
+    )
 }

@@ -9,7 +9,7 @@ use native.Mathlib.Omega.{arith}
 use lib.ListN.{length, drop, length-drop}
 use lib.Seq.{drop-drop}
 use Rattle.exchange.specs.declared.call.Call.{Call}
-use Rattle.exchange.specs.Engine.{Sized, AllSized}
+use Rattle.exchange.specs.Calls.{Sized, AllSized}
 use Rattle.records.specs.declared.record.Record.the-variants as answer
 use Rattle.records.specs.Fields.{Bytes, begins-whole, small16, small32, drop-bytes}
 use Rattle.records.specs.Records.{termMark, stepMark, termBytes, stepBytes, termOf, stepOf, Front, whole, none, unreadable, frontOf, told, recordAt, front-none, record-end, Finds, at-end, at-term, at-step, at-fault, front-finds}

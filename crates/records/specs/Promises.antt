@@ -8,7 +8,7 @@ use mathlib.Core.List.{List, []}
 use Prim.Native.Nat.{ℕ, _*_, _≤_}
 use lib.ListN.{length, drop}
 use Rattle.exchange.specs.declared.call.Call.{Call}
-use Rattle.exchange.specs.Engine.{AllSized}
+use Rattle.exchange.specs.Calls.{AllSized}
 use Rattle.records.specs.declared.header.Header.the-variants as header
 use Rattle.records.specs.declared.record.Record.the-variants as answer
 use Rattle.records.specs.Fields.{Bytes}

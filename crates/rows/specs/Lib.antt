@@ -1,5 +1,4 @@
 pub mod Promises
-pub mod AllOf
 pub mod Row
 pub mod Runs
 pub mod Rows

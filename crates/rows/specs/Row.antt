@@ -17,7 +17,7 @@ use Rattle.exchange.specs.declared.run.Stage.{Stage}
 use Rattle.exchange.specs.declared.run.Stage.the-variants.{Opened, Authenticated, Done}
 use Rattle.exchange.specs.declared.run.Row.{Row}
 use Rattle.exchange.specs.Needs.{roleNumber, stageNumber}
-use Rattle.rows.specs.AllOf.{five, all-five}
+use Rattle.terms.specs.AllOf.{five, all-five}
 
 -- ---- definitions
 

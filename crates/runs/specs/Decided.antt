@@ -19,7 +19,7 @@ use Rattle.words.specs.Word.{wordOf}
 use Rattle.exchange.specs.declared.run.Role.{Role}
 use Rattle.exchange.specs.declared.run.Role.the-variants.{Initiator, Responder, Server}
 use Rattle.exchange.specs.declared.run.Row.{Row}
-use Rattle.rows.specs.AllOf.{five, all-five, each, each-true, true-each}
+use Rattle.terms.specs.AllOf.{five, all-five, each, each-true, true-each}
 use Rattle.rows.specs.Row.{width, isRow, is-row-words, words-is-row}
 use Rattle.rows.specs.Runs.{Full, wordsAt, runAt, words-length, run-fits}
 use Rattle.runs.specs.Lent.{hasStage, PrincipalsFit, KeyStands, RunHolds, Written, RowsHold, principalsFit, keyStands, keyHolds, runHolds, rowHolds, rowsHold}

@@ -16,8 +16,8 @@ use Rattle.exchange.specs.declared.run.Role.the-variants.{Initiator, Responder,
 use Rattle.exchange.specs.declared.run.Stage.{Stage}
 use Rattle.exchange.specs.declared.run.Stage.the-variants.{Opened, Authenticated, Done}
 use Rattle.exchange.specs.declared.run.Row.{Row}
-use Rattle.exchange.specs.Rules.{Apart}
-use Rattle.rows.specs.AllOf.{each}
+use Rattle.traces.specs.Conditions.{Apart}
+use Rattle.terms.specs.AllOf.{each}
 use Rattle.rows.specs.Row.{width, isRow, wordsOf}
 use Rattle.rows.specs.Runs.{Full, wordsAt, runAt}
 

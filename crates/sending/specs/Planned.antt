@@ -1,26 +1,34 @@
--- The plan of two nodes, one after the other, and what comes of it: the laws by which `send` meets its contract.
+-- The plan of two nodes, one after the other, and what comes of it: the law by which `plan_messages` meets its contract.
 -- Assumes nothing.
-use mathlib.Core.Path.{_≡_, sym, ap, ap₂, _∙_, subst}
-use mathlib.Core.List.{List, [], _∷_}
+use mathlib.Core.Path.{_≡_, refl, sym, ap, ap₂, _∙_, subst}
+use mathlib.Core.Bool.{Bool, true, false}
+use mathlib.Core.List.{List, [], _∷_, _++_}
 use Prim.Native.Nat.{ℕ, _+_, _<_, _≤_}
 use native.Mathlib.Omega.{arith}
-use borrow.Author.Tests.{le-leb, lt-leb}
-use lib.ListN.{length}
+use borrow.Author.Tests.{le-leb}
+use lib.Dec.{leb}
+use lib.ListN.{length, drop, take-append-drop}
 use Rattle.drafts.specs.Writes.{draft-writes}
-use Rattle.marks.specs.Marks.{withMark}
+use Rattle.terms.specs.Choice.{pick}
+use Rattle.terms.specs.Message.{Message}
 use Rattle.terms.specs.Number.{numberIn, termsOf, terms-list}
 use Rattle.terms.specs.Valid.{valid-holds}
 use Rattle.drafts.specs.declared.Node.{Node}
 use Rattle.messages.specs.declared.plan.Plan.{Plan}
 use Rattle.messages.specs.Entered.{entered}
-use Rattle.messages.specs.Lent.{start-ready, known-fresh}
+use Rattle.messages.specs.Lent.{over, start-ready, known-fresh}
 use Rattle.messages.specs.Plan.{known, drafted, Fresh, Ready, NodePlanned, written, known-length}
 use Rattle.messages.specs.Planning.{few}
 use Rattle.messages.specs.Standing.{entered-is, longer-entered, standing-here, standing-longer}
+use Rattle.marks.specs.Marks.{withMark}
+use Rattle.sending.specs.declared.Marks.{Marks}
+use Rattle.sending.specs.declared.Marks.the-variants.{Two, Nothing}
+use Rattle.sending.specs.declared.Prepared.{Prepared}
 use Rattle.sending.specs.Entering.{number-longer}
-use Rattle.sending.specs.Send.{Sendable, sent, refused, sending, sendOf}
+use Rattle.sending.specs.Send.{enteredAll, markedAll, fitsIn, MarksFit, markedBy, comes, Plannable, PlanFor, sent, refused, sending, sendOf}
+use Rattle.sending.specs.Accepted.{send-nothing}
 
-module _ {ts ws : List ℕ} {count : ℕ} {draft : List Node} {first last : ℕ} (s : Sendable ts ws count draft first last) {p : Plan} (f : Fresh p) where
+module _ {ts : List ℕ} {count : ℕ} {draft : List Node} {first last : ℕ} (s : Plannable ts count draft first last) {p : Plan} (f : Fresh p) where
   pub ready : length (p .numbers) ≡ 16 → Ready ts count draft p
   ready size = start-ready (s .small) (valid-holds (s .table)) (s .fits) f size
 
@@ -65,21 +73,72 @@ module _ {ts ws : List ℕ} {count : ℕ} {draft : List Node} {first last : ℕ}
           last-below = omega (arith, B .below);
         }
 
-    pub marks-fit : count + r .count ≤ 512 → (i < 512) × (j < 512)
-    marks-fit le = let N = numbers in (omega (arith, N .first-below), omega (arith, N .last-below))
-
-    pub too-many : 512 < count + r .count → refused 20 ts ws ≡ sendOf ts ws count (drafted ts draft first ∷ drafted ts draft last ∷ [])
+    pub both-planned : PlanFor ts count (drafted ts draft first ∷ drafted ts draft last ∷ []) (record { plan = r; marks = Two i j })
     unfolding sendOf
-    too-many lt =
-        subst (λ (xs : List ℕ). refused 20 ts ws ≡ sending ts ws xs (drafted ts draft first ∷ drafted ts draft last ∷ [])) all
-        (rw (length-all, lt-leb (count + r .count) 512 lt))
+    both-planned =
+        record {
+          few = few (two .again);
+          marks = λ le. (omega (arith, numbers .first-below), omega (arith, numbers .last-below));
+          sends = λ ws.
+              subst
+              (λ (xs : List ℕ). comes ts ws count (record { plan = r; marks = Two i j })
+              ≡ sending ts ws xs (drafted ts draft first ∷ drafted ts draft last ∷ [])) all
+              (rw length-all
+              (ap₂ (λ (x y : ℕ). comes ts ws count (record { plan = r; marks = Two x y })) (numbers .first-is) (numbers .last-is)));
+        }
 
-    pub all-fit : count + r .count ≤ 512 → sent (count + r .count) (written ts count r) (withMark (withMark ws i) j)
-        ≡ sendOf ts ws count (drafted ts draft first ∷ drafted ts draft last ∷ [])
-    unfolding sendOf
-    all-fit le =
-        subst
-        (λ (xs : List ℕ). sent (count + r .count) (written ts count r) (withMark (withMark ws i) j)
-        ≡ sending ts ws xs (drafted ts draft first ∷ drafted ts draft last ∷ [])) all
-        (rw (length-all, le-leb (count + r .count) 512 le)
-        (ap₂ (λ (x y : ℕ). sent (count + r .count) (written ts count r) (withMark (withMark ws x) y)) (numbers .first-is) (numbers .last-is)))
+-- ---- the marks of a plan
+
+module _ {m : Marks} {i j : ℕ} (e : m ≡ Two i j) where
+  pub two-fit : MarksFit m → (i < 512) × (j < 512)
+  two-fit fits = subst MarksFit e fits
+
+  pub two-marked : (ws : List ℕ) {xs ys : List ℕ} → xs ≡ withMark ws i → ys ≡ withMark xs j → ys ≡ markedBy m ws
+  two-marked ws p q = rw e (q ∙ ap (λ (x : List ℕ). withMark x j) p)
+
+pub none-marked : {m : Marks} → m ≡ Nothing → (ws : List ℕ) → ws ≡ markedBy m ws
+none-marked e ws = rw e
+
+-- where nothing is sent nothing is planned
+module _ (ts : List ℕ) (count : ℕ) (size : length ts ≡ 512) (room : count ≤ 512) where
+  no-more : (ws : List ℕ) → pick (leb count 512) (sent count ts ws) (refused 20 ts ws) ≡ sent count ts ws
+  no-more ws = rw (le-leb count 512 room)
+
+  pub nothing-planned : {p : Plan} → Fresh p → PlanFor ts count [] (record { plan = p; marks = Nothing })
+  nothing-planned {p} f =
+      let all : count + p .count ≡ count = omega (arith, f .empty) in
+      let same : written ts count p ≡ ts = ap₂ (λ (xs : List ℕ) (k : ℕ). xs ++ drop k ts) (known-fresh ts count f) all ∙ take-append-drop count ts in
+      record {
+        few = omega (arith, f .empty);
+        marks = λ le. tt;
+        sends = λ ws.
+            ap₂ (λ (k : ℕ) (us : List ℕ). pick (leb k 512) (sent k us ws) (refused 20 ts ws)) all same ∙ no-more ws ∙ sym (send-nothing ts ws count size room);
+      }
+
+-- ---- a plan that is for messages
+
+pub send-room : (ts ws : List ℕ) (count : ℕ) (ms : List Message) → fitsIn ts count ms ≡ true
+    → let xs = enteredAll (termsOf ts count) ms in sendOf ts ws count ms ≡ sent (length xs) (over xs ts) (markedAll ws xs ms)
+unfolding sendOf
+send-room ts ws count ms e = rw e
+
+same-room : (a b : Bool) (k : ℕ) (us vs : List ℕ) (k′ : ℕ) (us′ vs′ ts ws : List ℕ)
+    → pick a (sent k us vs) (refused 20 ts ws) ≡ pick b (sent k′ us′ vs′) (refused 20 ts ws) → a ≡ b
+same-room true true k us vs k′ us′ vs′ ts ws e = refl
+same-room true false k us vs k′ us′ vs′ ts ws e = let z : _≡_ {A = ℕ} 0 1 = cc in absurd (omega arith)
+same-room false true k us vs k′ us′ vs′ ts ws e = let z : _≡_ {A = ℕ} 0 1 = cc in absurd (omega arith)
+same-room false false k us vs k′ us′ vs′ ts ws e = refl
+
+module _ {ts : List ℕ} {count : ℕ} {ms : List Message} {r : Prepared} (p : PlanFor ts count ms r) where
+  -- it is too long exactly where the new terms do not all fit
+  pub room-known : leb (count + r .plan .count) 512 ≡ fitsIn ts count ms
+  unfolding sendOf
+  room-known =
+      let xs = enteredAll (termsOf ts count) ms in
+      same-room (leb (count + r .plan .count) 512) (fitsIn ts count ms) (count + r .plan .count) (written ts count (r .plan)) (markedBy (r .marks) []) (length xs)
+      (over xs ts) (markedAll [] xs ms) ts [] (p .sends [])
+
+  pub plan-sent : count + r .plan .count ≤ 512 → (ws : List ℕ)
+      → sent (count + r .plan .count) (written ts count (r .plan)) (markedBy (r .marks) ws) ≡ sendOf ts ws count ms
+  plan-sent le ws = subst (λ (b : Bool). pick b (sent (count + r .plan .count) (written ts count (r .plan)) (markedBy (r .marks) ws)) (refused 20 ts ws) ≡ sendOf ts ws count ms)
+      (le-leb (count + r .plan .count) 512 le) (p .sends ws)

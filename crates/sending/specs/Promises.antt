@@ -1,4 +1,4 @@
--- What the crate promises beside the contract of `send`: what holds of the tables after messages were sent, which messages
+-- What the crate promises beside the contracts of its functions: what holds of the tables after messages were sent, which messages
 -- can be sent, and where sending changes no term. `Send` has the definitions.
 -- Assumes nothing.
 use mathlib.Core.Path.{_≡_}
@@ -16,6 +16,8 @@ use Rattle.messages.specs.Lent.{over}
 use Rattle.messages.specs.Listed.{addAll}
 use Rattle.messages.specs.Meanings.{meanings}
 use Rattle.sending.specs.Send.{enteredAll, markedAll, sent, refused, sendOf, AllWrites, SentIs, SendRefused}
+-- a plan for messages is too long exactly where 20 is given; otherwise writing it is sending them; and no message needs no plan
+pub use Rattle.sending.specs.Planned.{room-known, plan-sent, send-room, nothing-planned}
 use Rattle.sending.specs.Accepted.{sent-accepted, sent-refused, sent-fits, sent-full, send-nothing, send-standing, send-twice}
 
 -- ---- what an outcome says

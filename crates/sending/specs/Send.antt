@@ -2,10 +2,10 @@
 -- messages: their terms are entered one message after another, and where they do not all fit nothing changes.
 -- Assumes nothing.
 use mathlib.Core.Path.{_≡_}
-use mathlib.Core.Bool.{true}
+use mathlib.Core.Bool.{Bool, true}
 use mathlib.Core.List.{List, [], _∷_, List·Memᴰ}
 use mathlib.Core.Logic.{_↔_, _⊎_}
-use Prim.Native.Nat.{ℕ, _<_, _≤_}
+use Prim.Native.Nat.{ℕ, _+_, _<_, _≤_}
 use lib.Dec.{leb}
 use lib.ListN.{length, drop}
 use Rattle.drafts.specs.declared.Node.{Node}
@@ -24,8 +24,11 @@ use Rattle.messages.specs.Listed.{addAll}
 use Rattle.messages.specs.Meanings.{meanings}
 use Rattle.messages.specs.Standing.{Standing}
 use Rattle.deduction.specs.Known.{Known}
-use Rattle.sending.specs.declared.Sent.{Sent}
-use Rattle.sending.specs.declared.Sent.the-variants.{Count, Refused}
+use Rattle.messages.specs.declared.plan.Plan.{Plan}
+use Rattle.messages.specs.Plan.{written}
+use Rattle.sending.specs.declared.Marks.{Marks}
+use Rattle.sending.specs.declared.Marks.the-variants.{Two, Nothing}
+use Rattle.sending.specs.declared.Prepared.{Prepared}
 
 -- ---- what is sent
 
@@ -46,9 +49,9 @@ pub data Sending : Type 0 where
   sent : (count : ℕ) (terms wire : List ℕ) → Sending
   refused : (number : ℕ) (terms wire : List ℕ) → Sending
 
-abbrev pub outcome : Sent → (terms wire : List ℕ) → Sending
-outcome (Count count) terms wire = sent count terms wire
-outcome (Refused number) terms wire = refused number terms wire
+-- "the new terms do not all fit": whether they do
+abbrev pub fitsIn : (ts : List ℕ) (count : ℕ) → List Message → Bool
+fitsIn ts count ms = leb (length (enteredAll (termsOf ts count) ms)) 512
 
 -- "When a step needs a message, its terms are added"; 20 if "the new terms do not all fit"
 abbrev pub sending : (ts ws xs : List ℕ) → List Message → Sending
@@ -57,15 +60,36 @@ sending ts ws xs ms = pick (leb (length xs) 512) (sent (length xs) (over xs ts) 
 unfoldable pub sendOf : (ts ws : List ℕ) (count : ℕ) → List Message → Sending
 sendOf ts ws count ms = sending ts ws (enteredAll (termsOf ts count) ms) ms
 
+-- ---- a plan
+
+abbrev pub MarksFit : Marks → Type 0
+MarksFit (Two first last) = (first < 512) × (last < 512)
+MarksFit Nothing = Unit {0}
+
+abbrev pub markedBy : Marks → List ℕ → List ℕ
+markedBy (Two first last) ws = withMark (withMark ws first) last
+markedBy Nothing ws = ws
+
+-- what comes of writing a plan, unless it is too long
+abbrev pub comes : (ts ws : List ℕ) (count : ℕ) → Prepared → Sending
+comes ts ws count r =
+    let all = count + r .plan .count in
+    pick (leb all 512) (sent all (written ts count (r .plan)) (markedBy (r .marks) ws)) (refused 20 ts ws)
+
+-- a plan is for these messages: writing it is sending them
+pub record PlanFor (ts : List ℕ) (count : ℕ) (ms : List Message) (r : Prepared) : Type 0 where
+  pub few : r .plan .count ≤ 32
+  pub marks : count + r .plan .count ≤ 512 → MarksFit (r .marks)
+  pub sends : (ws : List ℕ) → comes ts ws count r ≡ sendOf ts ws count ms
+
 -- ---- what a call asks for
 
--- the tables hold together and the draft fits, whatever the realm: the call itself has no use for its size
-pub record Sendable (ts ws : List ℕ) (count : ℕ) (draft : List Node) (first last : ℕ) : Type 0 where
+-- the table keeps the rules and the draft fits, whatever the realm: the call itself has no use for its size
+pub record Plannable (ts : List ℕ) (count : ℕ) (draft : List Node) (first last : ℕ) : Type 0 where
   pub n : ℕ
   pub small : n ≤ 65536
   pub table : Valid n ts count
   pub fits : draftFits n count draft ≡ true
-  pub words : length ws ≡ 8
   pub first-node : first < 16
   pub last-node : last < 16
 

@@ -1,35 +1,42 @@
-// Sending: the terms of a step's messages are added to the term table, all or none, and the messages are put on the wire.
+// Sending: the terms of a step's messages are added to the term table, all or none, and the messages are put on the wire. What is
+// to be written is planned first, and the plan is written whole.
 use drafts::Node;
 use marks::mark;
+use messages::plan::Plan;
 use messages::plan::fresh;
 use messages::plan::plan_node;
 use messages::plan::write_plan;
-use terms::rules::REFUSE_FULL;
-use terms::table::MAX_TERMS;
 ghost use mathlib.Core.List.{[], _∷_};
 ghost use mathlib.Core.Path.{_≡_};
+ghost use Prim.Native.Nat.{_+_, _≤_};
+ghost use lib.ListN.{length};
 ghost use Rattle.drafts.specs.Draft.{draftMessage};
-ghost use Rattle.sending.specs.Send.{Sendable, outcome, sendOf};
+ghost use Rattle.messages.specs.Plan.{written};
+ghost use Rattle.sending.specs.Send.{Plannable, PlanFor, MarksFit, markedBy};
 ghost use Rattle.terms.specs.Meaning.{messageAt};
 
-pub enum Sent {
-    // How many terms the table now has.
-    Count(usize),
-    Refused(u8),
+// The numbers of the messages that go onto the wire.
+pub enum Marks {
+    Two { first: u16, last: u16 },
+    Nothing,
 }
 
-// Sends the messages of two nodes of a draft; a step that sends one message names its node twice. A refused call leaves
-// every place as it was.
-pub fn send(
-    terms: &mut [u64],
-    wire: &mut [u64],
+// What sending writes: words behind the terms, and marks.
+pub struct Prepared {
+    pub plan: Plan,
+    pub marks: Marks,
+}
+
+// Plans the messages of two nodes of a draft; a step that sends one message names its node twice.
+pub fn plan_messages(
+    terms: &[u64],
     count: usize,
     draft: [Node; 16],
     first: usize,
     last: usize,
-) -> Sent
-    requires { ⌜ Sendable (now terms) (now wire) count draft first last ⌝ }
-    ensures { λ r. ⌜ outcome r (now (terms .exit)) (now (wire .exit)) ≡ sendOf (now (terms .entry)) (now (wire .entry)) count (draftMessage (messageAt (now (terms .entry))) draft first ∷ draftMessage (messageAt (now (terms .entry))) draft last ∷ []) ⌝ }
+) -> Prepared
+    requires { ⌜ Plannable (now terms) count draft first last ⌝ }
+    ensures { λ r. ⌜ PlanFor (now (terms .entry)) count (draftMessage (messageAt (now (terms .entry))) draft first ∷ draftMessage (messageAt (now (terms .entry))) draft last ∷ []) r ⌝ }
 {
     let none = fresh();
     let one = plan_node(terms, count, draft, first, none);
@@ -38,12 +45,25 @@ pub fn send(
     let two = plan_node(terms, count, draft, last, half);
     let other = two.number;
     let plan = two.plan;
-    let all = count + plan.count;
-    if MAX_TERMS < all {
-        return Sent::Refused(REFUSE_FULL);
+    Prepared {
+        plan,
+        marks: Marks::Two {
+            first: number,
+            last: other,
+        },
     }
+}
+
+// Writes what was planned.
+pub fn write_messages(terms: &mut [u64], wire: &mut [u64], count: usize, prepared: Prepared)
+    requires { ⌜ (length (now terms) ≡ 512) × (length (now wire) ≡ 8) × (count + prepared .plan .count ≤ 512) × (prepared .plan .count ≤ 32) × MarksFit (prepared .marks) ⌝ }
+    ensures { λ _. ⌜ (now (terms .exit) ≡ written (now (terms .entry)) count (prepared .plan)) × (now (wire .exit) ≡ markedBy (prepared .marks) (now (wire .entry))) ⌝ }
+{
+    let plan = prepared.plan;
+    let marks = prepared.marks;
     write_plan(terms, count, plan);
-    mark(wire, number as usize);
-    mark(wire, other as usize);
-    Sent::Count(all)
+    if let Marks::Two { first, last } = marks {
+        mark(wire, first as usize);
+        mark(wire, last as usize);
+    }
 }

@@ -12,8 +12,9 @@ use Rattle.replay.specs.Cache.{choose, present, stays, filter, kept}
 use Rattle.replay.specs.Promises.{present-exactly}
 use Rattle.replay.specs.declared.entry.Entry as replay
 use Rattle.replay.specs.declared.entry.Purge.{Purge}
-use Rattle.exchange.specs.Lists.{_∈_, here, there}
-use Rattle.exchange.specs.Log.{Entry, entry, keepUnless, forget}
+use Rattle.traces.specs.Lists.{_∈_, here, there}
+use Rattle.traces.specs.RuleSets.{Entry, entry}
+use Rattle.kerberos.specs.Log.{keepUnless, forget}
 use Rattle.simulation.specs.Values.{logged}
 
 -- ---- which are present

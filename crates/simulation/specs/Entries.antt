@@ -1,4 +1,4 @@
--- The replay cache after an event: an entry goes behind the others, entries are dropped, or nothing changes. It still fits, and
+-- The replay cache after an effect: an entry goes behind the others, entries are dropped, or nothing changes. It still fits, and
 -- its entries are those of the log's cache.
 -- Assumes nothing.
 use Prim.Native.Nat.{ℕ, zero, suc, _+_, _<_, _≤_}
@@ -8,11 +8,8 @@ use mathlib.Core.Logic.{⊎-elim}
 use native.Mathlib.Omega.{arith}
 use lib.ListN.{length, getD}
 use lib.Seq.{length-take-le, getD-take}
-use Rattle.exchange.specs.declared.event.Event.{Event}
-use Rattle.exchange.specs.declared.event.Event.the-variants.{Initiate, Respond, Issue, Authenticate, Accept, Finish, Tick, Purge, Leak, Nothing}
-use Rattle.exchange.specs.Log.{entry, cacheAfter}
-use Rattle.exchange.specs.Log as log
-use Rattle.exchange.specs.Realm as exchange
+use Rattle.traces.specs.RuleSets as rulesets
+use Rattle.traces.specs.Realm as exchange
 use Rattle.replay.specs.declared.entry.Entry.{Entry}
 use Rattle.replay.specs.declared.entry.Purge as replay
 use Rattle.replay.specs.Cache.{stays, kept, entries, written}
@@ -22,10 +19,13 @@ use Rattle.replay.specs.Promises.{kept-exactly}
 use Rattle.realm.specs.declared.header.Realm.{Realm}
 use Rattle.realm.specs.Opening.{header}
 use Rattle.realm.specs.Tables.{Tables, EntryFits, empty, Together}
-use Rattle.changes.specs.Cache.{cacheOf}
+use Rattle.decisions.specs.declared.Keeping.{Keeping}
+use Rattle.decisions.specs.declared.Keeping.the-variants.{Same, Remember, Forget}
+use Rattle.effects.specs.Cache.{cacheOf}
+use Rattle.simulation.specs.Mirrors.{CacheMirrors}
 use Rattle.simulation.specs.Values.{logged}
 use Rattle.simulation.specs.Cached.{logged-kept}
-use Rattle.simulation.specs.Taken.Fits.{EventFits}
+use Rattle.decisions.specs.Laws.Fits.{EntryReady}
 
 -- ---- entries that fit
 
@@ -77,44 +77,28 @@ module _ {n : ℕ} {list : List Entry} {count : ℕ} (c : CacheHolds n list coun
       held-holds (kept p (entries list count)) (omega (arith, filter-length (stays p) (entries list count), entries-length, c .most))
       (λ y m. entry-fits (kept-exactly p (entries list count) y .0 m .0))
 
--- ---- the cache after an event
+-- ---- the cache after an effect
 
 module _ {t : Tables} (w : Together t) where
   -- the cache's part of the tables
   pub cache-holds : CacheHolds (t .realm .n) (t .cache) (t .realm .entries)
   cache-holds = record { places = w .places; most = w .entries-most; each = w .entries-fit }
 
-  pub entries-kept : (e : Event) → EventFits t e → let c = cacheOf (t .realm) (t .cache) e in CacheHolds (t .realm .n) (c .places) (c .count)
-  entries-kept (Initiate r a b) f = cache-holds
-  entries-kept (Respond r a b) f = cache-holds
-  entries-kept (Issue r a b ts n) f = cache-holds
-  entries-kept (Authenticate r a b k ts ta) f = cache-holds
-  entries-kept (Accept r a b k ts ta) f =
-      appended-holds cache-holds (f .room) (record { b = b; k = k; ta = ta })
-      (record { b-below = f .stands .principals .b-below; k-most = f .k-most })
-  entries-kept (Finish r a b k ts ta) f = cache-holds
-  entries-kept (Tick now) f = cache-holds
-  entries-kept (Purge b) f = kept-holds cache-holds (record { b = b; clock = t .realm .clock; la = t .realm .la })
-  entries-kept (Leak r) f = cache-holds
-  entries-kept Nothing f = cache-holds
+  pub entries-kept : (x : Keeping) → EntryReady t x → let c = cacheOf (t .realm) (t .cache) x in CacheHolds (t .realm .n) (c .places) (c .count)
+  entries-kept Same f = cache-holds
+  entries-kept (Remember e) f = appended-holds cache-holds (f .0) e (f .1)
+  entries-kept (Forget b) f = kept-holds cache-holds (record { b = b; clock = t .realm .clock; la = t .realm .la })
 
-pub entries-follow : (h : Realm) (list : List Entry) {R : exchange.Realm} → header h ≡ R → {now : ℕ} → h .clock ≡ now
-    → {old : List log.Entry} → map logged (entries list (h .entries)) ≡ old → (e : Event)
-    → let c = cacheOf h list e in map logged (entries (c .places) (c .count)) ≡ cacheAfter R now e old
-entries-follow h list is clock same (Initiate r a b) = same
-entries-follow h list is clock same (Respond r a b) = same
-entries-follow h list is clock same (Issue r a b ts n) = same
-entries-follow h list is clock same (Authenticate r a b k ts ta) = same
-entries-follow h list is clock {old} same (Accept r a b k ts ta) =
-    let x : Entry = record { b = b; k = k; ta = ta } in
-    ap (map logged) (written-entries list (h .entries) (entries list (h .entries) ++ (x ∷ [])))
-    ∙ map-append logged (entries list (h .entries)) (x ∷ []) ∙ ap (λ (t : List log.Entry). t ++ (entry b k ta ∷ [])) same
-entries-follow h list is clock same (Finish r a b k ts ta) = same
-entries-follow h list is clock same (Tick now) = same
-entries-follow h list {R} is {now} clock {old} same (Purge b) =
-    let p : replay.Purge = record { b = b; clock = h .clock; la = h .la } in
-    ap (map logged) (written-entries list (h .entries) (kept p (entries list (h .entries))))
-    ∙ logged-kept p (entries list (h .entries))
-    ∙ rw (clock, same, ap (λ (x : exchange.Realm). x .authLife) is)
-entries-follow h list is clock same (Leak r) = same
-entries-follow h list is clock same Nothing = same
+module _ (h : Realm) (list : List Entry) {R : exchange.Realm} (is : header h ≡ R) {now : ℕ} (clock : h .clock ≡ now) {old : List rulesets.Entry}
+    (same : map logged (entries list (h .entries)) ≡ old) where
+  pub entries-follow : (x : Keeping) (f : List rulesets.Entry → List rulesets.Entry) → CacheMirrors R now x f
+      → let c = cacheOf h list x in map logged (entries (c .places) (c .count)) ≡ f old
+  entries-follow Same f after = same ∙ sym (after old)
+  entries-follow (Remember e) f after =
+      ap (map logged) (written-entries list (h .entries) (entries list (h .entries) ++ (e ∷ [])))
+      ∙ map-append logged (entries list (h .entries)) (e ∷ []) ∙ ap (λ (t : List rulesets.Entry). t ++ (logged e ∷ [])) same ∙ sym (after old)
+  entries-follow (Forget b) f after =
+      let p : replay.Purge = record { b = b; clock = h .clock; la = h .la } in
+      ap (map logged) (written-entries list (h .entries) (kept p (entries list (h .entries))))
+      ∙ logged-kept p (entries list (h .entries))
+      ∙ rw (clock, same, ap (λ (x : exchange.Realm). x .authLife) is) (sym (after old))

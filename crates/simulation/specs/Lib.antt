@@ -1,10 +1,15 @@
+-- The tables and the exchange side by side, and so demand 3 of every list of calls. Laws only; Promises is to be read first.
 pub mod Promises
 pub mod Values
 pub mod Cached
-pub mod Taken
-pub mod Fits
+pub mod Mirrors
+pub mod Rules
 pub mod Runs
 pub mod Entries
 pub mod Wire
-pub mod Terms
 pub mod Follows
+pub mod Terms
+pub mod Taken
+pub mod Kept
+pub mod Engine
+pub mod Cases

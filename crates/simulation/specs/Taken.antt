@@ -1,46 +1,81 @@
--- What is known of a step that is decided to be taken. The rules of the exchange take it, where the tables agree with a reading;
--- its event has what the writing of it needs; and the messages that it sends have their fields in range.
+-- A call that is taken, or refused: what the definitions of the crates below decide and write is what the rules of the exchange take
+-- and its reading holds.
 -- Assumes nothing.
-pub mod Fields
-pub mod Took
-pub mod Verdict
-pub mod Rules
-pub mod Fits
-use Prim.Native.Nat.{_^_, _<_}
+use Prim.Native.Nat.{ℕ, _^_, _<_}
+use mathlib.Core.Bool.{true, false}
+use mathlib.Core.List.{List, [], _∷_}
 use mathlib.Core.Path.{_≡_, sym, subst}
-use Rattle.exchange.specs.declared.event.Event.{Event}
-use Rattle.exchange.specs.Engine.{Agrees}
-use Rattle.exchange.specs.Log.{sends}
-use Rattle.exchange.specs.Reading.{Reading}
-use Rattle.exchange.specs.Realm.{Realm}
-use Rattle.exchange.specs.Rules as rules
-use Rattle.exchange.specs.Terms.{TermsFit}
+use Rattle.words.specs.Word.{packed}
+use Rattle.terms.specs.Add.{addOf}
+use Rattle.terms.specs.Outcome.{accept}
+use Rattle.messages.specs.Listed.{addAll}
+use Rattle.sending.specs.Send.{sent, sendOf}
+use Rattle.exchange.specs.declared.call.Call.{Call}
+use Rattle.exchange.specs.declared.call.Call.the-variants.{Term}
+use Rattle.exchange.specs.Calls.{Sized}
+use Rattle.traces.specs.Engines as engines
+use Rattle.traces.specs.Engines.{Agrees}
+use Rattle.traces.specs.Realm.{Realm}
+use Rattle.traces.specs.RuleSets.{Reading, read}
+use Rattle.kerberos.specs.Log.{Event, Nothing, Act, idle}
+use Rattle.kerberos.specs.Messages.{parallel}
+use Rattle.kerberos.specs.Reading.{HD}
+use Rattle.kerberos.specs.Rules as rules
 use Rattle.realm.specs.declared.input.Step.{Step}
+use Rattle.realm.specs.Fields.{callOf}
 use Rattle.realm.specs.Opening.{header}
-use Rattle.receiving.specs.declared.Verdict.the-variants.{Takes}
-use Rattle.steps.specs.Decide.{decided}
 use Rattle.realm.specs.Tables.{Tables, Together}
-use Rattle.simulation.specs.Values.{valuesOf, callOf}
-use Rattle.simulation.specs.Taken.Verdict.{took}
-use Rattle.simulation.specs.Taken.Rules.{taken}
-use Rattle.simulation.specs.Taken.Fits.{EventFits, took-fits, fits-writes}
-use Rattle.sending.specs.Send.{AllWrites}
+use Rattle.decisions.specs.declared.Effect.{Effect}
+use Rattle.decisions.specs.declared.Verdict.the-variants.{Takes}
+use Rattle.decisions.specs.Decision.{decided}
+use Rattle.decisions.specs.Effects.{messagesOf}
+use Rattle.decisions.specs.Laws.Fits.{took-clock}
+use Rattle.decisions.specs.Promises.{taken-as, taken-fits}
+use Rattle.simulation.specs.Follows as follows
+use Rattle.simulation.specs.Follows.{next, effect-together, effect-agrees, effect-fits}
+use Rattle.simulation.specs.Mirrors.{took-mirrors}
+use Rattle.simulation.specs.Rules.{taken}
+use Rattle.simulation.specs.Terms.{withTerms, term-together, term-takes, term-agrees}
+use Rattle.simulation.specs.Values.{valuesOf}
 
--- Whether the terms of what is sent fit is decided later, by refusal 20.
-pub verdict-taken : {R : Realm} (t : Tables) (ρ : Reading) (s : Step) {e : Event}
-    → header (t .realm) ≡ R
-    → Together t
-    → Agrees R (valuesOf t) ρ
-    → decided t s ≡ Takes e
-    → TermsFit (sends e) (ρ .terms)
-    → rules.Takes R (ρ .terms) (ρ .log) (callOf s) e
-verdict-taken t ρ s {e} q fits g v f =
-    subst (λ (R : Realm). rules.Takes R (ρ .terms) (ρ .log) (callOf s) e) q
-    (taken t ρ fits (subst (λ (R : Realm). Agrees R (valuesOf t) ρ) (sym q) g) (took t fits s v) f)
+-- A call that is refused leaves the tables in agreement: "State, wire, cache and terms stay unchanged."
+pub refused-agrees : {R : Realm} {t : engines.Tables HD} (ρ : Reading Event) (c : Call) → Agrees HD R t ρ → Agrees HD R t (read HD false c ρ)
+refused-agrees ρ c a = follows.refused-agrees ρ a
 
-pub verdict-fits : (t : Tables) (s : Step) {e : Event} → Together t → decided t s ≡ Takes e → EventFits t e
-verdict-fits t s fits v = took-fits t fits (took t fits s v)
+-- Tables that hold together, a step that is taken, and what came of sending its messages:
+module _ {t : Tables} (w : Together t) (s : Step) {x : Effect} (d : decided t s ≡ Takes x) {count : ℕ} {ts ws : List ℕ}
+    (o : sendOf (t .terms) (t .wire) (t .realm .terms) (messagesOf (x .sends)) ≡ sent count ts ws) where
+  -- the tables hold together again,
+  pub step-together : Sized (callOf s) → Together (next t x count ts ws)
+  step-together size = effect-together w x (taken-fits t s w d) o (took-clock t w (taken-as t s w d .took) size)
 
--- Times that are sent are the clock or were read from a term.
-pub sends-writes : (t : Tables) (s : Step) {e : Event} → Together t → t .realm .clock < 2 ^ 32 → decided t s ≡ Takes e → AllWrites (t .realm .n) (sends e)
-sends-writes t s {e} fits now v = fits-writes t fits now e (verdict-fits t s fits v)
+  -- what the step did, and the messages that it sent
+  pub step-act : Act
+  step-act = (taken-as t s w d .event, messagesOf (x .sends))
+
+  -- and where they agreed with a reading, the rules take the step for that act,
+  module _ {R : Realm} (is : header (t .realm) ≡ R) (ρ : Reading Event) (a : Agrees HD R (valuesOf t) ρ) where
+    pub step-taken : rules.Takes parallel R (ρ .terms) (ρ .log) (callOf s) step-act
+    unfolding step-act
+    step-taken =
+        subst (λ (R : Realm). rules.Takes parallel R (ρ .terms) (ρ .log) (callOf s) step-act) is
+        (taken t ρ w (subst (λ (R : Realm). Agrees HD R (valuesOf t) ρ) (sym is) a) (taken-as t s w d .took)
+        (effect-fits w x (taken-fits t s w d) o ρ (a .terms-are)))
+
+    -- and the tables agree with the reading that has it in front.
+    pub step-agrees : Agrees HD R (valuesOf (next t x count ts ws)) (record { log = step-act ∷ ρ .log; terms = addAll (step-act .1) (ρ .terms) })
+    unfolding step-act
+    step-agrees = effect-agrees w x (taken-fits t s w d) o is ρ a (taken-as t s w d .event) (took-mirrors (taken-as t s w d .took))
+
+-- A term that is added, or was there before:
+module _ {t : Tables} (w : Together t) (kind x y : ℕ) (size : Sized (Term kind x y)) {i count : ℕ} {ts : List ℕ}
+    (o : addOf (t .realm .n) (t .terms) (t .realm .terms) (packed kind x y) ≡ accept i count ts) where
+  pub adding-together : Together (withTerms t count ts)
+  adding-together = term-together w kind x y size o
+
+  module _ {R : Realm} (is : header (t .realm) ≡ R) (ρ : Reading Event) (a : Agrees HD R (valuesOf t) ρ) where
+    pub adding-taken : rules.Takes parallel R (ρ .terms) (ρ .log) (Term kind x y) idle
+    adding-taken = term-takes w kind x y size o ρ a
+
+    pub adding-agrees : Agrees HD R (valuesOf (withTerms t count ts)) (read HD true (Term kind x y) ρ)
+    adding-agrees = term-agrees w kind x y size o ρ a is

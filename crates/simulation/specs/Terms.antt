@@ -30,15 +30,20 @@ use Rattle.messages.specs.Listed.{termAt, insert, insert-present, insert-new}
 use Rattle.messages.specs.Meanings.{meanings, meanings-length, meanings-at, at-meanings, meanings-same}
 use Rattle.deduction.specs.Known.{Known}
 use Rattle.exchange.specs.declared.call.Call.the-variants.{Term}
-use Rattle.exchange.specs.declared.event.Event.the-variants.{Nothing}
-use Rattle.exchange.specs.Engine.{Agrees, Sized}
-use Rattle.exchange.specs.Reading.{Reading, read}
-use Rattle.exchange.specs.Realm.{Realm}
-use Rattle.exchange.specs.Rules.{Takes, takes-term}
-use Rattle.exchange.specs.Terms.{termOf, under, given}
+use Rattle.kerberos.specs.Messages.{parallel}
+use Rattle.kerberos.specs.Log.{Event, Nothing, idle}
+use Rattle.kerberos.specs.Reading.{HD}
+use Rattle.traces.specs.Engines.{Agrees}
+use Rattle.exchange.specs.Calls.{Sized}
+use Rattle.traces.specs.RuleSets.{Reading, read}
+use Rattle.traces.specs.Realm.{Realm}
+use Rattle.kerberos.specs.Rules.{Takes, takes-term}
+use Rattle.traces.specs.Terms.{termOf, under, given}
 use Rattle.realm.specs.Opening.{header}
 use Rattle.realm.specs.Tables.{Tables, Together}
 use Rattle.simulation.specs.Values.{valuesOf}
+use Rattle.decisions.specs.Effects.{nothing}
+use Rattle.simulation.specs.Mirrors.{nothing-mirrors}
 use Rattle.simulation.specs.Follows.{next, Grows, next-together, next-agrees}
 
 -- ---- the word
@@ -153,7 +158,7 @@ module _ {n : ℕ} {ts : List ℕ} {count : ℕ} (v : Valid n ts count) (kind x 
 
 -- the tables with more terms; all else stays
 abbrev pub withTerms : Tables → (count : ℕ) (ts : List ℕ) → Tables
-withTerms t count ts = next t Nothing count ts (t .wire)
+withTerms t count ts = next t (nothing (t .realm .clock)) count ts (t .wire)
 
 module _ {t : Tables} (w : Together t) (kind x y : ℕ) (size : Sized (Term kind x y)) {i count : ℕ} {ts : List ℕ}
     (e : addOf (t .realm .n) (t .terms) (t .realm .terms) (packed kind x y) ≡ accept i count ts) where
@@ -183,17 +188,17 @@ module _ {t : Tables} (w : Together t) (kind x y : ℕ) (size : Sized (Term kind
   )
 
   pub term-together : Together (withTerms t count ts)
-  term-together = next-together w grows Nothing tt tt
+  term-together = next-together w grows (nothing (t .realm .clock)) tt tt (w .clock-fits)
 
-  module _ {R : Realm} (ρ : Reading) (a : Agrees R (valuesOf t) ρ) where
+  module _ {R : Realm} (ρ : Reading Event) (a : Agrees HD R (valuesOf t) ρ) where
     made : termOf (ρ .terms) kind x y ≡ some (messageAt ts i)
     made = subst (λ (l : List Message). termOf l kind x y ≡ some (messageAt ts i)) (a .terms-are) (term-made (w .terms-hold) kind x y size e)
 
-    pub term-takes : Takes R (ρ .terms) (ρ .log) (Term kind x y) Nothing
+    pub term-takes : Takes parallel R (ρ .terms) (ρ .log) (Term kind x y) idle
     term-takes = takes-term made (subst (λ (l : List Message). length (insert (messageAt ts i) l) ≤ 512) (a .terms-are) (term-room (w .terms-hold) kind x y size e))
 
-    pub term-agrees : header (t .realm) ≡ R → Agrees R (valuesOf (withTerms t count ts)) (read true (Term kind x y) ρ)
+    pub term-agrees : header (t .realm) ≡ R → Agrees HD R (valuesOf (withTerms t count ts)) (read HD true (Term kind x y) ρ)
     term-agrees same =
-        next-agrees w grows same ρ a Nothing tt tt
+        next-agrees w grows (nothing (t .realm .clock)) tt tt same ρ a Nothing nothing-mirrors
         (term-inserted (w .terms-hold) kind x y size e ∙ ap (insert (messageAt ts i)) (a .terms-are) ∙ sym (ap (λ o. given o (ρ .terms) (λ m. insert m (ρ .terms))) made))
         wire-stays

@@ -6,18 +6,16 @@ use Rattle.deduction.specs.Known.{Known}
 use Rattle.rows.specs.Rows.{rowsOf}
 use Rattle.replay.specs.Cache.{entries}
 use Rattle.replay.specs.declared.entry.Entry as replay
-use Rattle.exchange.specs.Log.{Entry, entry}
-use Rattle.exchange.specs.Engine as exchange
-use Rattle.exchange.specs.declared.call.Call.{Call}
-use Rattle.exchange.specs.declared.call.Call.the-variants as calls
-use Rattle.realm.specs.declared.input.Step.{Step}
+use Rattle.traces.specs.RuleSets.{Entry, entry}
+use Rattle.traces.specs.Engines as engines
+use Rattle.kerberos.specs.Reading.{HD}
 use Rattle.realm.specs.Tables.{Tables}
 
 -- "entries hold b, K and Ta"
 abbrev pub logged : replay.Entry → Entry
 logged x = entry (x .b) (x .k) (x .ta)
 
-abbrev pub valuesOf : Tables → exchange.Tables
+abbrev pub valuesOf : Tables → engines.Tables HD
 valuesOf t =
     record {
       now = t .realm .clock;
@@ -26,7 +24,3 @@ valuesOf t =
       wire = Known (t .terms) (t .realm .terms) (t .wire);
       entries = map logged (entries (t .cache) (t .realm .entries));
     }
-
--- the step as a call
-abbrev pub callOf : Step → Call
-callOf s = calls.Step (s .step) (s .run) (s .a) (s .b) (s .m) (s .t)

@@ -1,13 +1,12 @@
--- The wire after an event: what was there, and what the event sends.
+-- The wire after a call: what was there, and what the call sends.
 -- Assumes nothing.
 use mathlib.Core.Path.{refl, subst}
 use mathlib.Core.List.{List, _∷_, List·Memᴰ, List·Memᴰ·head, List·Memᴰ·tail}
 use mathlib.Core.Logic.{_↔_, _⊎_, inl, inr, ⊎-elim}
 use Rattle.terms.specs.Message.{Message}
-use Rattle.exchange.specs.declared.event.Event.{Event}
-use Rattle.exchange.specs.Lists.{_∈_, here, there}
-use Rattle.exchange.specs.Laws.Log.{wire-after}
-use Rattle.exchange.specs.Log.{Log, sends, OnWire}
+use Rattle.traces.specs.Lists.{_∈_, here, there}
+use Rattle.traces.specs.Logs.{OnWire, wire-after}
+use Rattle.kerberos.specs.Log.{Event, Log}
 
 -- the two ways to say that a list has a member
 
@@ -19,9 +18,9 @@ in-member : {m : Message} {l : List Message} → m ∈ l → List·Memᴰ m l
 in-member here = List·Memᴰ·head refl
 in-member (there i) = List·Memᴰ·tail (in-member i)
 
-module _ (Old New : Message → Type 0) (l : Log) (e : Event) (same : (m : Message) → Old m ↔ OnWire l m) where
-  pub wire-follows : ((m : Message) → New m ↔ (Old m ⊎ List·Memᴰ m (sends e))) → (m : Message) → New m ↔ OnWire (e ∷ l) m
+module _ (Old New : Message → Type 0) (l : Log) (e : Event) (ms : List Message) (same : (m : Message) → Old m ↔ OnWire l m) where
+  pub wire-follows : ((m : Message) → New m ↔ (Old m ⊎ List·Memᴰ m ms)) → (m : Message) → New m ↔ OnWire ((e, ms) ∷ l) m
   wire-follows grown m = (
-    λ k. wire-after .1 (⊎-elim (λ o. inr (same m .0 o)) (λ i. inl (member-in (sends e) i)) (grown m .0 k)),
+    λ k. wire-after .1 (⊎-elim (λ o. inr (same m .0 o)) (λ i. inl (member-in ms i)) (grown m .0 k)),
     λ k. grown m .1 (⊎-elim (λ i. inr (in-member i)) (λ o. inl (same m .1 o)) (wire-after .0 k)),
   )

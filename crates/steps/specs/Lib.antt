@@ -1,3 +1,3 @@
-pub mod Promises
-pub mod Decide
+-- The laws by which the steps meet their contracts, which answer `stepOf` and `decided` of decisions/Decision.
+pub mod Named
 pub mod Laws

@@ -1,5 +1,6 @@
 pub mod Promises
 pub mod Choice
+pub mod AllOf
 pub mod Message
 pub mod Descend
 pub mod Rules

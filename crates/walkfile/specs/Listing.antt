@@ -19,7 +19,7 @@ use Rattle.realm.specs.declared.header.Opening.the-variants as opening
 use Rattle.realm.specs.declared.header.Realm.{Realm}
 use Rattle.realm.specs.Opening.{openingOf}
 use Rattle.realm.specs.Tables.{Tables, tables, empty}
-use Rattle.engine.specs.Call.{called}
+use Rattle.effects.specs.Call.{called}
 use Rattle.walkfile.specs.declared.Listing.{Listing}
 use Rattle.walkfile.specs.declared.Listing.the-variants.{Written, NoRoom}
 

@@ -22,8 +22,7 @@ use Rattle.realm.specs.declared.header.Realm.{Realm}
 use Rattle.realm.specs.Header.{fits-header}
 use Rattle.realm.specs.Opening.{header as headerOfRealm, headerFits, newRealm, openingOf}
 use Rattle.realm.specs.Tables.{empty, Together}
-use Rattle.engine.specs.Engine.{New}
-use Rattle.engine.specs.Kept.{Sound}
+use Rattle.simulation.specs.Engine.{New}
 use Rattle.walkfile.specs.Listing.{newTables}
 use Rattle.walkfile.specs.Walking.{Walkable}
 
@@ -70,6 +69,7 @@ unfolding newTables
 new-together n flags ls la hs ha fits =
     record {
       header-fits = fits-header n flags ls la hs ha fits;
+      clock-fits = omega arith;
       terms-hold = no-terms n;
       rows-hold = no-rows n;
       wire-words = no-words 8;
@@ -78,10 +78,6 @@ new-together n flags ls la hs ha fits =
       entries-most = omega arith;
       entries-fit = λ i h. absurd (omega (arith, h));
     }
-
-new-sound : (n flags ls la : ℕ) → Together (newTables (newRealm n flags ls la)) → Sound (newTables (newRealm n flags ls la))
-unfolding newTables
-new-sound n flags ls la together = record { together = together; clock-fits = omega arith }
 
 -- ---- a realm that the header opened
 
@@ -98,7 +94,7 @@ walkable bytes n flags ls la h small e o =
     let s = f .sized small in
     let p = opened-fits n flags ls la h (headerFits n flags ls la) o in
     record {
-      sound = rw (p .1) at (new-sound n flags ls la (new-together n flags ls la (s .2) (s .3) (p .0)));
+      together = rw (p .1) at (new-together n flags ls la (s .2) (s .3) (p .0));
       least = f .least;
       most = f .most;
     }
@@ -112,7 +108,7 @@ opened-new bytes n flags ls la h small e o =
     let p = opened-fits n flags ls la h (headerFits n flags ls la) o .1 in
     record {
       header-is = refl;
-      together = w .sound .together;
+      together = w .together;
       clock = ap (λ (x : Realm). x .clock) (sym p);
       terms = ap (λ (x : Realm). x .terms) (sym p);
       runs = ap (λ (x : Realm). x .runs) (sym p);

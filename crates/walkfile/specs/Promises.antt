@@ -7,9 +7,12 @@ use mathlib.Core.Path.{_≡_}
 use mathlib.Core.List.{List, _++_}
 use lib.ListN.{length, drop}
 use Rattle.exchange.specs.declared.call.Call.{Call}
-use Rattle.exchange.specs.Agreement.{Demand3}
-use Rattle.exchange.specs.Engine.{AllSized, Agrees, after, history}
-use Rattle.exchange.specs.Reading.{reading}
+use Rattle.kerberos.specs.Agreement.{Demand3}
+use Rattle.kerberos.specs.Messages.{parallel}
+use Rattle.kerberos.specs.Reading.{HD}
+use Rattle.exchange.specs.Calls.{AllSized}
+use Rattle.traces.specs.Engines.{Agrees, after, history}
+use Rattle.traces.specs.RuleSets.{reading}
 use Rattle.records.specs.declared.header.Header.the-variants as headers
 use Rattle.records.specs.Fields.{Bytes, drop-bytes}
 use Rattle.records.specs.Headers.{headerBytes, headerOf}
@@ -20,8 +23,8 @@ use Rattle.realm.specs.declared.header.Opening.the-variants as openings
 use Rattle.realm.specs.declared.header.Realm.{Realm}
 use Rattle.realm.specs.Opening.{header, openingOf}
 use Rattle.simulation.specs.Values.{valuesOf}
-use Rattle.engine.specs.Engine.{New, engineOf}
-use Rattle.engine.specs.Promises.{demand3, tables-follow}
+use Rattle.simulation.specs.Engine.{New, engineOf}
+use Rattle.simulation.specs.Promises.{demand3, tables-follow}
 use Rattle.walkfile.specs.Listing.{newTables, lastLines, walkLines, listingOf}
 use Rattle.walkfile.specs.Opened.{opened-new}
 use Rattle.walkfile.specs.Traced.{newestFirst, newest-sized, lines-traced}
@@ -61,17 +64,17 @@ module _ (bytes : List ℕ) (h : Realm) (o : Opens bytes h) where
   sized = newest-sized (callsOf (drop headerBytes bytes) .calls) (calls-sized (drop headerBytes bytes) (drop-bytes (o .small) headerBytes))
 
   -- Demand 3 holds of its calls,
-  pub walk-demand3 : Demand3 (header h) (history (header h) (engineOf (header h) (newTables h) new) (callsIn bytes))
+  pub walk-demand3 : Demand3 parallel (header h) (history HD (header h) (engineOf (header h) (newTables h) new) (callsIn bytes))
   walk-demand3 = demand3 (header h) (newTables h) new (callsIn bytes) sized
 
   -- its tables agree with what is read of them,
-  pub walk-agrees : Agrees (header h) (valuesOf (after (header h) (engineOf (header h) (newTables h) new) (callsIn bytes)))
-      (reading (history (header h) (engineOf (header h) (newTables h) new) (callsIn bytes)))
+  pub walk-agrees : Agrees HD (header h) (valuesOf (after HD (header h) (engineOf (header h) (newTables h) new) (callsIn bytes)))
+      (reading HD (history HD (header h) (engineOf (header h) (newTables h) new) (callsIn bytes)))
   walk-agrees = tables-follow (header h) (newTables h) new (callsIn bytes) sized
 
   -- and its listing is the lines of their history, the line of refusal 3 if a record gave it, and the last line.
   pub walk-listed : listingOf bytes
-      ≡ listing (history (header h) (engineOf (header h) (newTables h) new) (callsIn bytes))
-      ++ lastLines (suc (length (callsIn bytes))) (after (header h) (engineOf (header h) (newTables h) new) (callsIn bytes)) (callsOf (drop headerBytes bytes) .ending)
+      ≡ listing (history HD (header h) (engineOf (header h) (newTables h) new) (callsIn bytes))
+      ++ lastLines (suc (length (callsIn bytes))) (after HD (header h) (engineOf (header h) (newTables h) new) (callsIn bytes)) (callsOf (drop headerBytes bytes) .ending)
   unfolding listingOf walkLines listing
   walk-listed = rw (o .read, o .opened) (lines-traced (header h) (newTables h) new (callsOf (drop headerBytes bytes) .calls) (callsOf (drop headerBytes bytes) .ending))

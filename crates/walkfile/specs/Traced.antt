@@ -6,15 +6,17 @@ use mathlib.Core.Path.{_≡_, refl, sym, ap, _∙_}
 use mathlib.Core.List.{List, [], _∷_, _++_, append-assoc}
 use lib.ListN.{length}
 use Rattle.exchange.specs.declared.call.Call.{Call}
-use Rattle.exchange.specs.Engine.{AllSized, Engine, after, history}
-use Rattle.exchange.specs.Realm.{Realm}
+use Rattle.exchange.specs.Calls.{AllSized}
+use Rattle.traces.specs.Engines.{Engine, after, history}
+use Rattle.traces.specs.Realm.{Realm}
+use Rattle.kerberos.specs.Reading.{HD}
 use Rattle.records.specs.Calls.{Ending}
 use Rattle.lines.specs.Lines.{callLine, listing}
 use Rattle.realm.specs.declared.header.Realm as realm
 use Rattle.realm.specs.Opening.{header}
 use Rattle.realm.specs.Tables.{Tables}
-use Rattle.engine.specs.Call.{called}
-use Rattle.engine.specs.Engine.{New, engineOf}
+use Rattle.effects.specs.Call.{called}
+use Rattle.simulation.specs.Engine.{New, engineOf}
 use Rattle.walkfile.specs.Listing.{lastLines, callLines}
 
 -- calls in the order of the file, put in front of earlier ones: the newest first
@@ -35,25 +37,25 @@ newest-sized cs s = onto-sized cs [] s tt
 -- ---- the lines of a history
 
 module _ (R : Realm) (t : Tables) (new : New R t) where
-  abbrev E : Engine R
+  abbrev E : Engine HD R
   E = engineOf R t new
 
-  history-length : (cs : List Call) → length (history R E cs) ≡ length cs
+  history-length : (cs : List Call) → length (history HD R E cs) ≡ length cs
   history-length [] = refl
   history-length (c ∷ cs) = ap suc (history-length cs)
 
   lines-onto : (cs earlier : List Call) (e : Ending)
-      → listing (history R E earlier) ++ callLines (suc (length earlier)) (after R E earlier) cs e
-      ≡ listing (history R E (onto cs earlier)) ++ lastLines (suc (length (onto cs earlier))) (after R E (onto cs earlier)) e
+      → listing (history HD R E earlier) ++ callLines (suc (length earlier)) (after HD R E earlier) cs e
+      ≡ listing (history HD R E (onto cs earlier)) ++ lastLines (suc (length (onto cs earlier))) (after HD R E (onto cs earlier)) e
   unfolding callLines listing
   lines-onto [] earlier e = refl
   lines-onto (c ∷ cs) earlier e =
-      sym (append-assoc (listing (history R E earlier)) (callLine (suc (length earlier)) c (called (after R E earlier) c .answer)) _)
-      ∙ ap (λ (n : ℕ). (listing (history R E earlier) ++ callLine (suc n) c (called (after R E earlier) c .answer))
-      ++ callLines (suc (suc (length earlier))) (called (after R E earlier) c .tables) cs e) (sym (history-length earlier))
+      sym (append-assoc (listing (history HD R E earlier)) (callLine (suc (length earlier)) c (called (after HD R E earlier) c .answer)) _)
+      ∙ ap (λ (n : ℕ). (listing (history HD R E earlier) ++ callLine (suc n) c (called (after HD R E earlier) c .answer))
+      ++ callLines (suc (suc (length earlier))) (called (after HD R E earlier) c .tables) cs e) (sym (history-length earlier))
       ∙ lines-onto cs (c ∷ earlier) e
 
   pub lines-traced : (cs : List Call) (e : Ending)
       → listing [] ++ callLines 1 t cs e
-      ≡ listing (history R E (newestFirst cs)) ++ lastLines (suc (length (newestFirst cs))) (after R E (newestFirst cs)) e
+      ≡ listing (history HD R E (newestFirst cs)) ++ lastLines (suc (length (newestFirst cs))) (after HD R E (newestFirst cs)) e
   lines-traced cs e = lines-onto cs [] e

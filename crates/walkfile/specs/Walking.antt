@@ -9,7 +9,7 @@ use native.Mathlib.Nat.{add-zero}
 use native.Mathlib.Numerals.{add-one}
 use lib.ListN.{length, take, drop, take-append-drop}
 use Rattle.exchange.specs.declared.call.Call.{Call}
-use Rattle.exchange.specs.Engine.{Sized}
+use Rattle.exchange.specs.Calls.{Sized}
 use Rattle.records.specs.declared.record.Record.{Record}
 use Rattle.records.specs.declared.record.Record.the-variants as answer
 use Rattle.records.specs.Headers.{headerBytes, maxFile}
@@ -19,22 +19,22 @@ use Rattle.records.specs.Promises.{step-on, none-left, ends, breaks}
 use Rattle.lines.specs.Lines.{headerLine, callLine, fileLine}
 use Rattle.fields.specs.Placed.{placed, Wrote, joined, wrote-as}
 use Rattle.realm.specs.declared.header.Realm.{Realm}
-use Rattle.realm.specs.Tables.{Tables}
+use Rattle.realm.specs.Tables.{Tables, Together}
 use Rattle.effects.specs.Apply.{Outcome}
-use Rattle.engine.specs.Call.{called}
-use Rattle.engine.specs.Kept.{Sound, call-kept}
+use Rattle.effects.specs.Call.{called}
+use Rattle.simulation.specs.Kept.{call-kept}
 use Rattle.walkfile.specs.Listing.{newTables, tablesLine, lastLines, callLines, linesOf, walkLines}
 
 -- A realm that was just opened, and the file that its header stands in.
 pub record Walkable (h : Realm) (bytes : List ℕ) : Type 0 where
-  pub sound : Sound (newTables h)
+  pub together : Together (newTables h)
   pub least : headerBytes ≤ length bytes
   pub most : length bytes ≤ maxFile
 
 -- Before the record at a place, which would be record `number`; the lines after the header's are written from `first` on.
 -- A record takes at least 7 bytes and a line at most 24.
 pub record Standing (bytes before : List ℕ) (first : ℕ) (all after : List ℕ) (t : Tables) (at number end : ℕ) : Type 0 where
-  pub sound : Sound t
+  pub together : Together t
   pub inside : at ≤ length bytes
   pub count : 7 * number + 6 ≤ at
   pub short : end ≤ 24 * number
@@ -65,7 +65,7 @@ pub starts : (bytes before : List ℕ) (h : Realm) (first : ℕ) → Walkable h 
     → Standing bytes before first (recordLines h bytes) before (newTables h) 13 1 first
 starts bytes before h first w few room =
     record {
-      sound = w .sound;
+      together = w .together;
       inside = w .least;
       count = omega arith;
       short = omega (arith, few);
@@ -89,7 +89,7 @@ module _ (bytes before : List ℕ) (first : ℕ) (all after : List ℕ) (t : Tab
       let same : s .lines ++ line ++ later ≡ all =
       append-assoc (s .lines) line later ∙ ap (λ (cs : Calls). s .lines ++ linesOf number t cs) (sym (taken .first)) ∙ s .rest in
       record {
-        sound = rw is (call-kept t c sized (s .sound));
+        together = rw is (call-kept t c sized (s .together));
         inside = taken .inside;
         count = omega (arith, s .count, taken .later);
         short = omega (arith, s .short, short);

@@ -47,7 +47,7 @@ use Rattle.exchange.specs.declared.call.Answer.the-variants.{Refused}
 use Rattle.replay.specs.declared.entry.Entry.{Entry}
 use Rattle.effects.specs.declared.apply.After.{After}
 use Rattle.effects.specs.Apply.{after}
-use Rattle.engine.specs.Call.{checked}
+use Rattle.effects.specs.Call.{checked}
 use Rattle.calls.specs.declared.Called.{Called}
 use Rattle.calls.specs.Lent.{outcome, lentCall, lent-checked, lent-10}
 use Rattle.realm.proofs.header.Realm as 𝓗

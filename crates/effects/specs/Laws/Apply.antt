@@ -1,52 +1,64 @@
 -- The whole effect, by what the calls gave.
 -- Assumes nothing.
-use mathlib.Core.Path.{_≡_, sym, ap, ap₂, _∙_}
+use mathlib.Core.Path.{_≡_, sym, ap, _∙_}
+use mathlib.Core.Bool.{true}
 use mathlib.Core.List.{List}
-use Prim.Native.Nat.{ℕ}
+use Prim.Native.Nat.{ℕ, _+_}
 use native.Mathlib.Omega.{arith}
-use Rattle.sending.specs.declared.Sent.{Sent}
-use Rattle.sending.specs.declared.Sent.the-variants.{Count, Refused}
-use Rattle.sending.specs.Promises.{send-full}
-use Rattle.sending.specs.Send.{Sending, sent, refused, outcome, sendOf}
+use borrow.Author.Tests.{le-leb}
+use Rattle.terms.specs.Message.{Message}
+use Rattle.messages.specs.Plan as plans
+use Rattle.sending.specs.declared.Prepared.{Prepared}
+use Rattle.sending.specs.Promises.{room-known, plan-sent, send-room}
+use Rattle.sending.specs.Send.{Sending, sent, refused, markedBy, fitsIn}
 use Rattle.exchange.specs.declared.call.Answer.{Answer}
-use Rattle.exchange.specs.declared.call.Answer.the-variants as answers
-use Rattle.exchange.specs.declared.event.Event.{Event}
-use Rattle.exchange.specs.Log.{sends}
 use Rattle.replay.specs.declared.cache.Swept.{Swept}
-use Rattle.realm.specs.declared.header.Realm.{Realm}
-use Rattle.realm.specs.Tables.{Tables, tables}
-use Rattle.effects.specs.Apply.{answerOf, realmAfter, written, applied, Ready}
-use Rattle.changes.specs.Cache.{cacheOf}
-use Rattle.changes.specs.Row.{changeOf, changed}
-use Rattle.changes.specs.Sends.{Sends}
+use Rattle.realm.specs.Tables.{Tables, tables, Together}
+use Rattle.decisions.specs.declared.Change.{Change}
+use Rattle.decisions.specs.declared.Change.the-variants as changes
+use Rattle.decisions.specs.declared.Keeping.{Keeping}
+use Rattle.decisions.specs.declared.Keeping.the-variants.{Same, Remember, Forget}
+use Rattle.decisions.specs.Laws.Fits.{RowReady, EntryReady}
+use Rattle.decisions.specs.declared.Effect.{Effect}
+use Rattle.decisions.specs.Effects.{messagesOf}
+use Rattle.deciding.specs.Decided.{Writable}
+use Rattle.effects.specs.Apply.{Outcome, refuse, answerOf, realmAfter, written, applied}
+use Rattle.effects.specs.Cache.{cacheOf, EntryRoom}
+use Rattle.effects.specs.Row.{ChangeFits, changed, runCount}
 
-module _ (t : Tables) (e : Event) where
-  -- what is sent
-  abbrev sentOf : Sending
-  sentOf = sendOf (t .terms) (t .wire) (t .realm .terms) (sends e)
+-- ---- what an effect that the tables can hold asks for
 
-  pub sends-ready : Ready t e → Sends (t .terms) (t .wire) (t .realm .terms) e
-  sends-ready ready =
-      let all = ready .together in
-      record { n = t .realm .n; small = omega (arith, all .header-fits .most); table = all .terms-hold; words = all .wire-words .len; writes = ready .writes }
+pub row-fits : (t : Tables) (ms : List Message) (x : Change) → Together t → RowReady t ms x → ChangeFits (t .realm .runs) x
+row-fits t ms (changes.Open x) w f = f .0
+row-fits t ms (changes.Set r x) w f = omega (arith, f .0, w .rows-hold .room)
+row-fits t ms changes.Nothing w f = tt
 
-  module _ {s : Sent} {ts ws : List ℕ} (o : outcome s ts ws ≡ sentOf) where
-    -- the terms do not all fit: no table has changed
-    pub refused-applied : Ready t e → {number : ℕ} → s ≡ Refused number
-        → record { answer = answers.Refused number; tables = tables (t .realm) ts (t .runs) ws (t .cache) } ≡ applied t e
+pub entry-fits : (t : Tables) (x : Keeping) → EntryReady t x → EntryRoom (t .realm .entries) x
+entry-fits t Same f = tt
+entry-fits t (Remember e) f = f .0
+entry-fits t (Forget b) f = tt
+
+-- ---- the tables afterwards
+
+module _ (t : Tables) (x : Effect) where
+  -- what is written where sending comes to this
+  abbrev pub bySending : Sending → Outcome
+  bySending (sent count ts ws) = written t x count ts ws
+  bySending (refused number ts ws) = refuse t number
+
+  module _ {r : Prepared} (f : Writable t x r) where
+    -- what the plan says is what the effect says
+    pub plan-applied : written t x (t .realm .terms + r .plan .count) (plans.written (t .terms) (t .realm .terms) (r .plan)) (markedBy (r .marks) (t .wire)) ≡ applied t x
     unfolding applied
-    refused-applied ready {number} h =
-        let out : refused number ts ws ≡ sentOf = ap (λ (x : Sent). outcome x ts ws) (sym h) ∙ o in
-        let all = sends-ready ready in
-        let same = send-full (all .n) (all .small) (all .table) (t .wire) (sends e) (all .writes) (sym out) in
-        ap₂ (λ (x y : List ℕ). record { answer = answers.Refused number; tables = tables (t .realm) x (t .runs) y (t .cache) }) (same .terms) (same .wire) ∙ ap (written t e) out
+    plan-applied =
+        let yes : fitsIn (t .terms) (t .realm .terms) (messagesOf (x .sends)) ≡ true = sym (room-known (f .plan)) ∙ le-leb (t .realm .terms + r .plan .count) 512 (f .room) in
+        ap bySending (plan-sent (f .plan) (f .room) (t .wire) ∙ send-room (t .terms) (t .wire) (t .realm .terms) (messagesOf (x .sends)) yes)
 
-    -- they fit, and the rest is written
-    module _ {count : ℕ} (h : s ≡ Count count) {rs : List ℕ} (rows : rs ≡ changed (changeOf e) (t .runs)) {swept : Swept}
-        (kept : swept ≡ cacheOf (t .realm) (t .cache) e) {realm : Realm} (moved : realm ≡ realmAfter (t .realm) e count (swept .count))
-        {answer : Answer} (told : answer ≡ answerOf e) where
-      pub sent-applied : record { answer = answer; tables = tables realm ts rs ws (swept .places) } ≡ applied t e
-      unfolding applied
-      sent-applied =
-          let out : sent count ts ws ≡ sentOf = ap (λ (x : Sent). outcome x ts ws) (sym h) ∙ o in
-          rw (← out, ← kept, rows, moved, told)
+    module _ {ts ws : List ℕ} (sent : (ts ≡ plans.written (t .terms) (t .realm .terms) (r .plan)) × (ws ≡ markedBy (r .marks) (t .wire))) {rs : List ℕ} {opened : ℕ}
+        (rows : (rs ≡ changed (t .realm .runs) (x .change) (t .runs)) × (opened ≡ runCount (t .realm .runs) (x .change))) {swept : Swept}
+        (kept : swept ≡ cacheOf (t .realm) (t .cache) (x .keeping)) {answer : Answer} (told : answer ≡ answerOf (x .names)) where
+      pub all-applied : record {
+        answer = answer;
+        tables = tables (realmAfter (t .realm) (x .clock) (t .realm .terms + r .plan .count) opened (swept .count)) ts rs ws (swept .places);
+      } ≡ applied t x
+      all-applied = rw (← plan-applied, ← kept, sent .0, sent .1, rows .0, rows .1, told)

@@ -9,7 +9,7 @@ use Prim.Native.Nat.{ℕ, zero, suc, _<_}
 use native.Mathlib.Omega.{arith}
 use borrow.Author.Tests.{eqb-true, eq-eqb, ne-eqb}
 use lib.Dec.{eqb}
-use Rattle.exchange.specs.Terms.{given}
+use Rattle.traces.specs.Terms.{given}
 use Rattle.terms.specs.Choice.{pick}
 use Rattle.terms.specs.Meaning.{keyOf}
 use Rattle.terms.specs.Message.{longTerm, session, Message, principal, time, nonce, key, pair, encrypted}

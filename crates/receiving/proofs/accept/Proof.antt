@@ -82,21 +82,29 @@ returns-4 c =
     delivery-barred (a .h) (a .terms .now) (a .wire .now) (a .cache) (a .run) (a .own) (a .m) (x .0) (x .1 .0) (x .1 .1 .0) (x .1 .1 .1 .0) (x .1 .1 .1 .1 .0) (is f) (mine e) (derivable d)
     (c .before .admit .result) (c .before .admit .ensures) (c .if3 .taken)
 
-cast-t22 : tie.Need-cast-t22
-cast-t22 c =
+cast-key : tie.Need-cast-key
+cast-key c =
     let f = c .before .before .before .before .before .before .before .before in
     let x = f .k .given .0 in
     record { fits = omega (arith, delivery-key-most (f .before .before .before .before .before .pre .0) (x .0) (x .1 .0) (x .1 .1 .0) (x .1 .1 .1 .0) (x .1 .1 .1 .1 .0) (is f)) }
 
+cast-responder : tie.Need-cast-responder
+cast-responder c = search needs
+
+advance-requires : tie.Need-advance-requires
+advance-requires c κs = search needs
+
 returns-5 : tie.Need-returns-5
 returns-5 c =
-    let d = c .before .before in
+    let w = c .before in
+    let d = w .before .before .before in
     let e = d .before .before in
     let f = e .before .before .before .before in
     let a = f .before .before .before .before .before .args in
     let x = f .k .given .0 in
-    delivery-taken (a .h) (a .terms .now) (a .wire .now) (a .cache) (a .run) (a .own) (a .m) (x .0) (x .1 .0) (x .1 .1 .0) (x .1 .1 .1 .0) (x .1 .1 .1 .1 .0) (is f) (mine e) (derivable d)
-    (c .before .admit .result) (c .before .admit .ensures) (c .if3 .left)
+    c .advance .ensures
+    ∙ delivery-taken (a .h) (a .terms .now) (a .wire .now) (a .cache) (a .run) (a .own) (a .m) (x .0) (x .1 .0) (x .1 .1 .0) (x .1 .1 .1 .0) (x .1 .1 .1 .1 .0) (is f) (mine e) (derivable d)
+    (w .before .before .admit .result) (w .before .before .admit .ensures) (w .before .if3 .left)
 
 pub accept-spec : {M : Type 1} → statement M
 accept-spec =
@@ -113,5 +121,7 @@ accept-spec =
     returns-3
     admit-requires
     returns-4
-    cast-t22
+    cast-key
+    cast-responder
+    advance-requires
     returns-5)

@@ -82,21 +82,29 @@ returns-4 c =
     reply-over (a .h) (a .terms .now) (a .wire .now) (a .run) (a .own) (a .m) (x .0) (x .1 .0) (x .1 .1 .0) (x .1 .1 .1 .0) (x .1 .1 .1 .1 .0) (is f) (mine e) (derivable d)
     (sym (c .before .ticket-lives .ensures) ∙ not-true _ (c .if3 .taken))
 
-cast-t22 : tie.Need-cast-t22
-cast-t22 c =
+cast-key : tie.Need-cast-key
+cast-key c =
     let f = c .before .before .before .before .before .before .before .before in
     let x = f .k .given .0 in
     record { fits = omega (arith, reply-key-most (f .before .before .before .before .before .pre) (x .0) (x .1 .0) (x .1 .1 .0) (x .1 .1 .1 .0) (x .1 .1 .1 .1 .0) (is f)) }
 
+cast-initiator : tie.Need-cast-initiator
+cast-initiator c = search needs
+
+advance-requires : tie.Need-advance-requires
+advance-requires c κs = search needs
+
 returns-5 : tie.Need-returns-5
 returns-5 c =
-    let d = c .before .before in
+    let w = c .before in
+    let d = w .before .before .before in
     let e = d .before .before in
     let f = e .before .before .before .before in
     let a = f .before .before .before .before .before .args in
     let x = f .k .given .0 in
-    reply-taken (a .h) (a .terms .now) (a .wire .now) (a .run) (a .own) (a .m) (x .0) (x .1 .0) (x .1 .1 .0) (x .1 .1 .1 .0) (x .1 .1 .1 .1 .0) (is f) (mine e) (derivable d)
-    (sym (c .before .ticket-lives .ensures) ∙ not-false _ (c .if3 .left))
+    c .advance .ensures
+    ∙ reply-taken (a .h) (a .terms .now) (a .wire .now) (a .run) (a .own) (a .m) (x .0) (x .1 .0) (x .1 .1 .0) (x .1 .1 .1 .0) (x .1 .1 .1 .1 .0) (is f) (mine e) (derivable d)
+    (sym (w .before .before .ticket-lives .ensures) ∙ not-false _ (w .before .if3 .left))
 
 pub authenticate-spec : {M : Type 1} → statement M
 authenticate-spec =
@@ -113,5 +121,7 @@ authenticate-spec =
     returns-3
     ticket-lives-requires
     returns-4
-    cast-t22
+    cast-key
+    cast-initiator
+    advance-requires
     returns-5)

@@ -77,15 +77,20 @@ returns-4 c =
     confirmation-over (a .h) (a .terms .now) (a .wire .now) (a .run) (a .own) (a .m) (x .0) (x .1 .0) (is f) (mine e) (derivable d)
     (sym (c .before .ticket-lives .ensures) ∙ not-true _ (c .if3 .taken))
 
+advance-requires : tie.Need-advance-requires
+advance-requires c κs = search needs
+
 returns-5 : tie.Need-returns-5
 returns-5 c =
-    let d = c .before .before in
+    let w = c .before in
+    let d = w .before .before in
     let e = d .before .before in
     let f = e .before .before .before .before in
     let a = f .before .before .before .before .before .args in
     let x = f .ta .given .0 in
-    confirmation-taken (a .h) (a .terms .now) (a .wire .now) (a .run) (a .own) (a .m) (x .0) (x .1 .0) (is f) (mine e) (derivable d)
-    (sym (c .before .ticket-lives .ensures) ∙ not-false _ (c .if3 .left))
+    c .advance .ensures
+    ∙ confirmation-taken (a .h) (a .terms .now) (a .wire .now) (a .run) (a .own) (a .m) (x .0) (x .1 .0) (is f) (mine e) (derivable d)
+    (sym (w .before .ticket-lives .ensures) ∙ not-false _ (w .if3 .left))
 
 pub finish-spec : {M : Type 1} → statement M
 finish-spec =
@@ -101,4 +106,5 @@ finish-spec =
     returns-3
     ticket-lives-requires
     returns-4
+    advance-requires
     returns-5)

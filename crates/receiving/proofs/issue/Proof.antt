@@ -62,30 +62,38 @@ returns-4 c =
     request-underivable (a .h) (a .terms .now) (a .wire .now) (a .m) (e .if1 .left) (x .0) (x .1 .0) (x .1 .1 .0) (is f) (apart g)
     (sym (c .before .can-deliver .ensures) ∙ not-true _ (c .if3 .taken))
 
-cast-t15 : tie.Need-cast-t15
-cast-t15 c = search needs
+cast-r : tie.Need-cast-r
+cast-r c = search needs
 
-cast-t16 : tie.Need-cast-t16
-cast-t16 c =
+cast-key : tie.Need-cast-key
+cast-key c = search needs
+
+cast-initiator : tie.Need-cast-initiator
+cast-initiator c =
     let f = c .before .before .before .before .before in
     let x = f .a .given .0 in
     record { fits = omega (arith, request-in-range (f .before .before .before .before .before .before .before .pre) (x .0) (x .1 .0) (x .1 .1 .0) (is f) .0) }
 
-cast-t17 : tie.Need-cast-t17
-cast-t17 c =
+cast-responder : tie.Need-cast-responder
+cast-responder c =
     let f = c .before .before .before .before .before in
     let x = f .a .given .0 in
     record { fits = omega (arith, request-in-range (f .before .before .before .before .before .before .before .pre) (x .0) (x .1 .0) (x .1 .1 .0) (is f) .1) }
 
+open-run-requires : tie.Need-open-run-requires
+open-run-requires c κs = search needs
+
 returns-5 : tie.Need-returns-5
 returns-5 c =
-    let g = c .before .before .before in
+    let w = c .before in
+    let g = w .before .before .before in
     let f = g .before .before in
     let e = f .before .before .before in
     let a = e .before .before .before .before .args in
     let x = f .a .given .0 in
-    request-taken (a .h) (a .terms .now) (a .wire .now) (a .m) (e .if1 .left) (x .0) (x .1 .0) (x .1 .1 .0) (is f) (apart g)
-    (sym (c .before .before .can-deliver .ensures) ∙ not-false _ (c .before .if3 .left))
+    c .open-run .ensures
+    ∙ request-taken (a .h) (a .terms .now) (a .wire .now) (a .m) (e .if1 .left) (x .0) (x .1 .0) (x .1 .1 .0) (is f) (apart g)
+    (sym (w .before .before .can-deliver .ensures) ∙ not-false _ (w .before .if3 .left))
 
 pub issue-spec : {M : Type 1} → statement M
 issue-spec =
@@ -99,7 +107,9 @@ issue-spec =
     returns-3
     can-deliver-requires
     returns-4
-    cast-t15
-    cast-t16
-    cast-t17
+    cast-r
+    cast-key
+    cast-initiator
+    cast-responder
+    open-run-requires
     returns-5)

@@ -71,7 +71,7 @@ slice-aggregate-call-3 : tie.Need-slice-aggregate-call-3 Inv-loop μ-loop
 slice-aggregate-call-3 c = search needs
 
 call-requires : tie.Need-call-requires Inv-loop μ-loop
-call-requires c κs = c .before .before .before .before .before .before .before .loop .inv .4 .sound .together
+call-requires c κs = c .before .before .before .before .before .before .before .loop .inv .4 .together
 
 write-call-line-requires : tie.Need-write-call-line-requires Inv-loop μ-loop
 write-call-line-requires c κs = omega (arith, room (c .before .before .before .before .before .before .before .before .before .before .before .before) .1)
@@ -111,13 +111,13 @@ write-file-line-requires : tie.Need-write-file-line-requires Inv-loop μ-loop
 write-file-line-requires c κs = omega (arith, room (c .before .before .before .before) .1)
 
 cast-write-end-line : tie.Need-cast-write-end-line Inv-loop μ-loop
-cast-write-end-line c = omega (arith, c .before .before .before .before .before .loop .inv .4 .sound .together .rows-hold .room)
+cast-write-end-line c = omega (arith, c .before .before .before .before .before .loop .inv .4 .together .rows-hold .room)
 
 members-requires : tie.Need-members-requires Inv-loop μ-loop
 members-requires c κs = search needs
 
 cast-write-end-line-2 : tie.Need-cast-write-end-line-2 Inv-loop μ-loop
-cast-write-end-line-2 c = omega (arith, c .before .before .before .before .before .before .before .loop .inv .4 .sound .together .entries-most)
+cast-write-end-line-2 c = omega (arith, c .before .before .before .before .before .before .before .loop .inv .4 .together .entries-most)
 
 -- before the last line, whichever way the reading ended
 ready : (c : tie.Joined1 Inv-loop μ-loop) → let l = c .before .before .before .loop in let w = c .before .before .before .before .before .before .write-header-line in let a = c .before .before .before .before .before .before .before .before .before .before .args in

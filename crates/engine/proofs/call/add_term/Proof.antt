@@ -1,5 +1,5 @@
 -- `engine::call::add_term` meets its contract: by the contract of adding; a number is below 512. Assumes nothing.
-use Rattle.engine.specs.Call.{adding}
+use Rattle.effects.specs.Call.{adding}
 use Rattle.engine.specs.Ways.{one-more, number-below}
 use Rattle.terms.specs.Add.{outcome, addOf}
 use native.Mathlib.Omega.{arith}

@@ -1,6 +1,6 @@
 -- `engine::call::call` meets its contract: by the contract of the call that its kind makes. Assumes nothing.
 use Rattle.engine.specs.Ways.{step-called, term-called}
-use Rattle.engine.specs.Call.{called}
+use Rattle.effects.specs.Call.{called}
 use Rattle.realm.specs.Tables.{tables}
 use mathlib.Core.Path.{sym, ap, _∙_}
 use borrow.Author.Needs.{needs}

@@ -1,19 +1,15 @@
 -- `realm::tables::tables_hold` meets its contract: the answers of the five tests, and what they say together. Assumes nothing.
 use Rattle.realm.specs.Tables.{tables}
-use Rattle.realm.specs.Check.{together, together-is}
+use Rattle.realm.specs.Check.{Narrow, together, together-is}
 use lib.ListN.{length}
 use mathlib.Core.Path.{_≡_, sym, _∙_}
 use mathlib.Core.Bool.{_&&_}
-use Prim.Native.Nat.{_^_, _<_}
 use borrow.Author.Needs.{needs}
 use Rattle.realm.proofs.tables.tables_hold.Statement.{statement}
 use Rattle.realm.proofs.tables.tables_hold.Tie as tie
 
-narrow-ls : (c : tie.After-entries-hold) → c .before .before .before .before .before .before .before .before .args .h .ls < 2 ^ 32
-narrow-ls c = search needs
-
-narrow-la : (c : tie.After-entries-hold) → c .before .before .before .before .before .before .before .before .args .h .la < 2 ^ 32
-narrow-la c = search needs
+narrow : (c : tie.After-entries-hold) → Narrow (c .before .before .before .before .before .before .before .before .args .h)
+narrow c = record { ls = search needs; la = search needs; clock = search needs }
 
 sixteen : (c : tie.After-entries-hold) → length (c .before .before .before .before .before .before .before .before .args .cache) ≡ 16
 sixteen c = search needs
@@ -51,7 +47,7 @@ entries-hold-requires : tie.Need-entries-hold-requires
 entries-hold-requires c κs = search needs
 
 returns : tie.Need-returns
-returns c = (answered c, λ e. together-is _ (narrow-ls c) (narrow-la c) (c .before .wire-holds .ensures .1) (sixteen c) (sym (answered c) ∙ e))
+returns c = (answered c, λ e. together-is _ (narrow c) (c .before .wire-holds .ensures .1) (sixteen c) (sym (answered c) ∙ e))
 
 pub tables-hold-spec : {M : Type 1} → statement M
 tables-hold-spec =

@@ -1,0 +1,52 @@
+-- `deciding::plan::plan_sends` meets its contract, by the law for each way out. Assumes nothing.
+use mathlib.Core.Path.{_≡_, sym, _∙_}
+use Rattle.deciding.specs.declared.plan.Roots.the-variants.{At}
+use Rattle.deciding.specs.Layout.{rootsOf}
+use Rattle.deciding.specs.Laws.Plan.{none-planned, draft-plannable, draft-planned}
+use borrow.Author.Needs.{needs}
+use Rattle.deciding.proofs.plan.plan_sends.Statement.{statement}
+use Rattle.deciding.proofs.plan.plan_sends.Tie as tie
+
+-- where there are messages
+roots : (c : tie.After-first) → rootsOf (c .before .before .before .before .args .sends) ≡ At (c .first .given .0 .0) (c .first .given .0 .1 .0)
+roots c = sym (c .before .before .roots-of .ensures) ∙ c .first .given .1
+
+roots-of-requires : tie.Need-roots-of-requires
+roots-of-requires c κs = search needs
+
+enum-known-first : tie.Need-enum-known-first
+enum-known-first c = search needs
+
+draft-of-requires : tie.Need-draft-of-requires
+draft-of-requires c κs = search needs
+
+plan-messages-requires : tie.Need-plan-messages-requires
+plan-messages-requires c κs = let at = c .before .before in draft-plannable (at .before .before .before .before .pre) (roots at) (c .draft-of .ensures)
+
+enum-told : tie.Need-enum-told
+enum-told c = search needs
+
+fresh-requires : tie.Need-fresh-requires
+fresh-requires c κs = search needs
+
+returns : tie.Need-returns
+returns c =
+    let d = c .before in
+    let at = d .before .before in
+    draft-planned (at .before .before .before .before .pre) (roots at) (d .draft-of .ensures) (c .plan-messages .ensures)
+
+returns-2 : tie.Need-returns-2
+returns-2 c = none-planned (c .before .before .before .before .before .pre) (sym (c .before .before .before .roots-of .ensures) ∙ c .before .enum-told .given .1) (c .fresh .ensures)
+
+pub plan-sends-spec : {M : Type 1} → statement M
+plan-sends-spec =
+    tie.close
+    (tie.spec
+    roots-of-requires
+    enum-known-first
+    draft-of-requires
+    plan-messages-requires
+    enum-told
+    fresh-requires
+    returns
+    returns-2)

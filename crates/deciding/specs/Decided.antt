@@ -1,0 +1,21 @@
+-- What a decision hands on to the writing: an effect that the tables can hold, with a plan of its messages whose terms fit.
+-- Assumes nothing.
+use Prim.Native.Nat.{_+_, _≤_}
+use Rattle.sending.specs.declared.Prepared.{Prepared}
+use Rattle.sending.specs.Send.{PlanFor}
+use Rattle.realm.specs.Tables.{Tables}
+use Rattle.decisions.specs.declared.Effect.{Effect}
+use Rattle.decisions.specs.declared.Verdict.{Verdict}
+use Rattle.decisions.specs.declared.Verdict.the-variants.{Takes, Refused}
+use Rattle.decisions.specs.Effects.{messagesOf}
+use Rattle.decisions.specs.Laws.Fits.{EffectFits}
+
+pub record Writable (t : Tables) (x : Effect) (r : Prepared) : Type 0 where
+  pub fits : EffectFits t x
+  pub plan : PlanFor (t .terms) (t .realm .terms) (messagesOf (x .sends)) r
+  pub room : t .realm .terms + r .plan .count ≤ 512
+
+-- a step that is refused has nothing to write
+abbrev pub Planned : Tables → Verdict → Prepared → Type 0
+Planned t (Refused number) r = Unit {0}
+Planned t (Takes x) r = Writable t x r

@@ -1,0 +1,3 @@
+-- The laws by which the functions meet their contracts, one for each way out.
+pub mod Plan
+pub mod Decide

@@ -1,0 +1,99 @@
+-- What is sent: nothing, one message, or the reply and the ticket. A draft can be sent where the fields of its messages are in
+-- range, and what is sent then are these messages.
+-- Assumes nothing.
+use mathlib.Core.Path.{_≡_, refl, sym, ap, ap₂, _∙_, subst}
+use mathlib.Core.Bool.{true}
+use mathlib.Core.List.{List, [], _∷_}
+use Prim.Native.Nat.{ℕ, _<_}
+use native.Mathlib.Omega.{arith}
+use Rattle.drafts.specs.Draft.{draftMessage, draftFits}
+use Rattle.terms.specs.Meaning.{messageAt}
+use Rattle.terms.specs.Message.{Message}
+use Rattle.drafts.specs.declared.Node.{Node}
+use Rattle.layouts.specs.Drafts.{REQUEST_ROOT, REPLY_ROOT, TICKET_ROOT, AUTHENTICATOR_ROOT, CONFIRMATION_ROOT, KEY_ROOT}
+use Rattle.layouts.specs.Promises.{request-at, reply-at, ticket-at, authenticator-at, confirmation-at, key-at}
+use Rattle.layouts.specs.Promises.{request-fits, issue-fits, authenticator-fits, confirmation-fits, key-fits}
+use Rattle.messages.specs.declared.plan.Plan.{Plan}
+use Rattle.messages.specs.Plan.{Fresh}
+use Rattle.sending.specs.declared.Marks.the-variants as marks
+use Rattle.sending.specs.declared.Prepared.{Prepared}
+use Rattle.sending.specs.Promises.{send-once, nothing-planned}
+use Rattle.sending.specs.Send.{AllWrites, Plannable, PlanFor, sendOf}
+use Rattle.decisions.specs.declared.Sends.{Sends}
+use Rattle.decisions.specs.declared.Sends.the-variants.{Request, Issue, Authenticator, Confirmation, Key}
+use Rattle.decisions.specs.declared.Sends.the-variants as sending
+use Rattle.decisions.specs.Effects.{messagesOf}
+use Rattle.deciding.specs.declared.plan.Roots.{Roots}
+use Rattle.deciding.specs.declared.plan.Roots.the-variants.{At, Nothing}
+use Rattle.deciding.specs.Layout.{rootsOf, draftOf, CanSend}
+
+-- what the code plans: the messages of two nodes
+abbrev both : List ℕ → List Node → (first last : ℕ) → List Message
+both ts draft first last = draftMessage (messageAt ts) draft first ∷ draftMessage (messageAt ts) draft last ∷ []
+
+-- ---- a draft says what is sent
+
+module _ (ts : List ℕ) (count : ℕ) where
+  record Says (ms : List Message) (draft : List Node) (first last : ℕ) : Type 0 where
+    can : Plannable ts count draft first last
+    same : (ws : List ℕ) → sendOf ts ws count (both ts draft first last) ≡ sendOf ts ws count ms
+
+  abbrev Laid : Sends → Roots → Type 0
+  Laid x (At first last) = Says (messagesOf x) (draftOf x) first last
+  Laid x Nothing = messagesOf x ≡ []
+
+  module _ {x : Sends} (s : CanSend ts count x) {draft : List Node} (fits : draftFits (s .n) count draft ≡ true) where
+    plannable : (first last : ℕ) → first < 16 → last < 16 → Plannable ts count draft first last
+    plannable first last f l = record { n = s .n; small = s .small; table = s .table; fits = fits; first-node = f; last-node = l }
+
+    -- one message is sent by naming its node twice
+    one : (root : ℕ) → root < 16 → (m : Message) → AllWrites (s .n) (m ∷ []) → draftMessage (messageAt ts) draft root ≡ m → Says (m ∷ []) draft root root
+    one root below m writes stands =
+        record {
+          can = plannable root root below below;
+          same = λ ws. ap (λ (x : Message). sendOf ts ws count (x ∷ x ∷ [])) stands ∙ send-once (s .table) ws (s .small) m (writes .0);
+        }
+
+  laid-out : (x : Sends) → CanSend ts count x → Laid x (rootsOf x)
+  laid-out sending.Nothing s = refl
+  laid-out (Request a b n) s =
+      let w = s .writes .0 in
+      one s (request-fits (s .n) count a b n (w .0) (w .1 .0) (w .1 .1)) REQUEST_ROOT (omega arith) _ (s .writes) (request-at (messageAt ts) a b n)
+  laid-out (Issue k a b t n) s =
+      let w = s .writes .0 in
+      let fits = issue-fits (s .n) count k a b t n (w .0 .0) (w .1) (w .0 .1 .0) (omega (arith, w .0 .1 .1 .0)) (w .0 .1 .1 .1) in
+      record {
+        can = plannable s fits REPLY_ROOT TICKET_ROOT (omega arith) (omega arith);
+        same = λ ws. ap₂ (λ (x y : Message). sendOf ts ws count (x ∷ y ∷ [])) (reply-at (messageAt ts) k a b t n) (ticket-at (messageAt ts) k a b t n);
+      }
+  laid-out (Authenticator a ta k) s =
+      let w = s .writes .0 in
+      one s (authenticator-fits (s .n) count a ta k (w .0 .0) (omega (arith, w .0 .1)) (w .1)) AUTHENTICATOR_ROOT (omega arith) _ (s .writes)
+      (authenticator-at (messageAt ts) a ta k)
+  laid-out (Confirmation ta k) s =
+      let w = s .writes .0 in
+      one s (confirmation-fits (s .n) count ta k (omega (arith, w .0)) (w .1)) CONFIRMATION_ROOT (omega arith) _ (s .writes) (confirmation-at (messageAt ts) ta k)
+  laid-out (Key k) s = one s (key-fits (s .n) count k (s .writes .0)) KEY_ROOT (omega arith) _ (s .writes) (key-at (messageAt ts) k)
+
+-- ---- once the roots are known
+
+module _ {ts : List ℕ} {count : ℕ} {x : Sends} (s : CanSend ts count x) where
+  pub none-planned : rootsOf x ≡ Nothing → {p : Plan} → Fresh p → PlanFor ts count (messagesOf x) (record { plan = p; marks = marks.Nothing })
+  none-planned h {p} f =
+      let none : messagesOf x ≡ [] = subst (Laid ts count x) h (laid-out ts count x s) in
+      rw none (nothing-planned ts count (s .table .size) (s .table .room) f)
+
+  module _ {first last : ℕ} (h : rootsOf x ≡ At first last) {draft : List Node} (laid : draft ≡ draftOf x) where
+    says : Says ts count (messagesOf x) (draftOf x) first last
+    says = subst (Laid ts count x) h (laid-out ts count x s)
+
+    pub draft-plannable : Plannable ts count draft first last
+    draft-plannable = subst (λ (d : List Node). Plannable ts count d first last) (sym laid) (says .can)
+
+    pub draft-planned : {r : Prepared} → PlanFor ts count (both ts draft first last) r → PlanFor ts count (messagesOf x) r
+    draft-planned p =
+        record {
+          few = p .few;
+          marks = p .marks;
+          sends = λ ws. p .sends ws ∙ ap (λ (d : List Node). sendOf ts ws count (both ts d first last)) laid ∙ says .same ws;
+        }

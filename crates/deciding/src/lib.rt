@@ -1,0 +1,4 @@
+// A step decided whole: by its row of the step table, then its messages planned, and whether their terms fit. Nothing is written, and
+// nothing is refused later.
+pub mod decide;
+pub mod plan;

@@ -1,0 +1,30 @@
+-- What a step comes to, before anything is written. `Effects` has what each row of the step table writes, `Decision` the whole of it:
+-- the paper's two tables of refusals, in their order, and the step table. Below is that order, and which refusals there are.
+-- Assumes nothing.
+use Prim.Native.Nat.{ℕ}
+use mathlib.Core.Path.{_≡_, subst}
+use Rattle.traces.specs.Lists.{_∈_}
+use Rattle.realm.specs.declared.input.Step.{Step}
+use Rattle.realm.specs.Tables.{Tables, Together}
+use Rattle.realm.specs.Fields.{callOf}
+use Rattle.decisions.specs.declared.Effect.{Effect}
+use Rattle.decisions.specs.declared.Verdict.the-variants.{Takes, Refused}
+use Rattle.decisions.specs.Decision.{decided, decision}
+use Rattle.decisions.specs.Laws.Fits.{EffectFits, took-fits}
+use Rattle.decisions.specs.Laws.Refusals.{allOf, Tells, tells}
+use Rattle.decisions.specs.Laws.Took.{TookAs}
+use Rattle.decisions.specs.Laws.Verdict as verdicts
+
+-- a step has the refusals that the tables name for it, 4 to 6 and 20, and no other
+pub step-refusals : (t : Tables) (s : Step) {k : ℕ} → decision t s ≡ Refused k → k ∈ allOf (s .step)
+step-refusals t s e = subst (Tells (allOf (s .step))) e (tells t s)
+
+-- Tables that hold together, and a step that is taken but for 20:
+module _ (t : Tables) (s : Step) (w : Together t) {x : Effect} (d : decided t s ≡ Takes x) where
+  -- it has met what its row of the step table asks for, and is an event of the exchange;
+  pub taken-as : TookAs t (callOf s) x
+  taken-as = verdicts.took t w s d
+
+  -- its row, its entry and its messages are such as the tables can hold.
+  pub taken-fits : EffectFits t x
+  taken-fits = took-fits t w (taken-as .took)

@@ -1,0 +1,45 @@
+-- What this crate promises. The definitions that it is stated in, in reading order: Messages (with the forms), Log and Rules (what
+-- the steps mean), Reading and Words (how a list of calls with its answers is read), Agreement (the claim). Examples shows that
+-- the claim is not empty and that its conditions are needed; proofs are in Laws, and what is argued for a form singly is in
+-- Laws/Forms.
+-- Assumes nothing.
+use Prim.Native.Nat.{ℕ}
+use mathlib.Core.Path.{_≡_}
+use mathlib.Core.Bool.{true}
+use mathlib.Core.List.{List}
+use mathlib.Core.Option.{some}
+use Rattle.terms.specs.Message.{Message}
+use Rattle.exchange.specs.declared.call.Call.{Call}
+use Rattle.exchange.specs.declared.call.Call.the-variants.{Step}
+use Rattle.exchange.specs.Calls.{AllSized}
+use Rattle.exchange.specs.Needs.{needOf, meets}
+use Rattle.traces.specs.Realm.{Realm, Header}
+use Rattle.traces.specs.RuleSets.{History, Reading}
+use Rattle.traces.specs.Engines.{Engine, history}
+use Rattle.traces.specs.Laws.Histories.{lawful}
+use Rattle.kerberos.specs.Messages.{Form}
+use Rattle.kerberos.specs.Log.{Event, Act, Log, Run, run, stored}
+use Rattle.kerberos.specs.Rules.{Takes}
+use Rattle.kerberos.specs.Reading.{rules, actOf, Lawful}
+use Rattle.kerberos.specs.Agreement.{Demand3}
+use Rattle.kerberos.specs.Laws.Histories.{agreement, taken-read}
+use Rattle.kerberos.specs.Laws.Needs.{takes-met}
+
+-- Demand 3 holds of every list of calls in which each accepted call is one that the rules take.
+pub demand3 : (f : Form) (R : Realm) (h : History) → Lawful f R h → Demand3 f R h
+demand3 f R h w = agreement w
+
+-- So it holds of an engine, for every header that refusal 2 lets pass and every list of calls.
+pub engine-demand3 : (f : Form) (R : Realm) → Header R → (E : Engine (rules f) R) (cs : List Call) → AllSized cs → Demand3 f R (history (rules f) R E cs)
+engine-demand3 f R header E cs z = agreement (lawful (rules f) R E header cs z)
+
+-- Rules and reading agree: a call is read as what the rules take it for.
+pub rules-read : {f : Form} {R : Realm} (ρ : Reading Event) {c : Call} {a : Act} → Takes f R (ρ .terms) (ρ .log) c a → actOf f c ρ ≡ a
+rules-read ρ t = taken-read ρ t
+
+-- The constant table and the rules agree: the run that a taken step names meets the step's need.
+pub rules-met : {f : Form} {R : Realm} {terms : List Message} {l : Log} {s r a b m t : ℕ} {act : Act} {x : Run}
+    → Takes f R terms l (Step s r a b m t) act
+    → run l r ≡ some x
+    → meets (needOf s) (stored x) ≡ true
+rules-met t h = takes-met t h

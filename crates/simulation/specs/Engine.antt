@@ -1,0 +1,180 @@
+-- The engine as the theory asks for one: its tables stay those of the reading of the calls and their answers, and each call that
+-- it accepts is one that the rules take. So demand 3 holds of it. A call is taken as `called` has it; the tables hold together
+-- from the start on, so the check of refusal 10 never shows.
+-- Assumes nothing.
+use Prim.Native.Nat.{ℕ}
+use mathlib.Core.Path.{_≡_, refl, sym, ap, subst}
+use mathlib.Core.Bool.{true, false}
+use mathlib.Core.List.{List, [], _∷_, map}
+use native.Mathlib.Omega.{arith}
+use Rattle.words.specs.Word.{packed}
+use Rattle.terms.specs.Add.{addOf, Adds, adds}
+use Rattle.terms.specs.Choice.{no-true}
+use Rattle.terms.specs.Outcome as terms
+use Rattle.terms.specs.Message.{Message}
+use Rattle.messages.specs.Listed.{addAll}
+use Rattle.messages.specs.Meanings.{meanings}
+use Rattle.rows.specs.Rows.{rowsOf}
+use Rattle.replay.specs.Cache.{entries}
+use Rattle.exchange.specs.declared.call.Call.{Call}
+use Rattle.exchange.specs.declared.call.Call.the-variants as calls
+use Rattle.exchange.specs.Calls.{accepts, Sized}
+use Rattle.traces.specs.Engines.{Agrees, Engine}
+use Rattle.traces.specs.Logs.{OnWire, sent as on-wire}
+use Rattle.traces.specs.Realm.{Realm}
+use Rattle.traces.specs.RuleSets.{Reading, empty, read, Taken}
+use Rattle.kerberos.specs.Log.{Event, Act, Log}
+use Rattle.kerberos.specs.Messages.{parallel}
+use Rattle.kerberos.specs.Reading.{HD}
+use Rattle.kerberos.specs.Rules.{Takes}
+use Rattle.kerberos.specs.Theorems.{rules-read}
+use Rattle.realm.specs.declared.input.Step.{Step}
+use Rattle.realm.specs.Fields.{callOf}
+use Rattle.realm.specs.Opening.{header}
+use Rattle.realm.specs.Tables.{Tables, Together}
+use Rattle.decisions.specs.declared.Effect.{Effect}
+use Rattle.decisions.specs.declared.Names.{Names}
+use Rattle.decisions.specs.declared.Names.the-variants as names
+use Rattle.decisions.specs.declared.Verdict.{Verdict}
+use Rattle.decisions.specs.declared.Verdict.the-variants as verdicts
+use Rattle.decisions.specs.Decision.{decision}
+use Rattle.decisions.specs.Laws.Verdict.{decision-takes}
+use Rattle.effects.specs.Apply.{answerOf, applied}
+use Rattle.simulation.specs.Taken.{refused-agrees, step-act, step-taken, step-agrees, adding-taken, adding-agrees}
+use Rattle.simulation.specs.Values.{logged, valuesOf}
+use Rattle.effects.specs.Call.{adding, withTerm, byVerdict, stepped, called}
+use Rattle.simulation.specs.Kept.{step-sends, call-kept}
+
+-- ---- what the engine keeps
+
+-- the realm has this header, and its tables hold together and agree with the reading
+pub record Follows (R : Realm) (t : Tables) (ρ : Reading Event) : Type 0 where
+  pub header-is : header (t .realm) ≡ R
+  pub together : Together t
+  pub agrees : Agrees HD R (valuesOf t) ρ
+
+-- the part of it that is about the reading
+pub record Matches (R : Realm) (t : Tables) (ρ : Reading Event) : Type 0 where
+  pub header-is : header (t .realm) ≡ R
+  pub agrees : Agrees HD R (valuesOf t) ρ
+
+-- "A new hall has clock 0 and empty tables", whatever stands in the places
+pub record New (R : Realm) (t : Tables) : Type 0 where
+  pub header-is : header (t .realm) ≡ R
+  pub together : Together t
+  pub clock : t .realm .clock ≡ 0
+  pub terms : t .realm .terms ≡ 0
+  pub runs : t .realm .runs ≡ 0
+  pub entries : t .realm .entries ≡ 0
+
+-- ---- a call that is refused
+
+kept : {R : Realm} {t : Tables} {ρ : Reading Event} (c : Call) → Follows R t ρ → Matches R t (read HD false c ρ)
+kept {ρ = ρ} c f = record { header-is = f .header-is; agrees = refused-agrees ρ c (f .agrees) }
+
+-- ---- a step
+
+ok : (who : Names) → accepts (answerOf who) ≡ true
+ok (names.Run r) = refl
+ok names.Nobody = refl
+
+-- what a reading becomes by this act
+abbrev acted : Reading Event → Act → Reading Event
+acted ρ a = record { log = a ∷ ρ .log; terms = addAll (a .1) (ρ .terms) }
+
+module _ {R : Realm} {t : Tables} {ρ : Reading Event} (f : Follows R t ρ) (s : Step) where
+  by-verdict : (v : Verdict) → decision t s ≡ v → Matches R (byVerdict t v .tables) (read HD (accepts (byVerdict t v .answer)) (callOf s) ρ)
+  unfolding applied
+  by-verdict (verdicts.Takes x) d =
+      let p = decision-takes t s d .0 in
+      let o = step-sends t s d in
+      rw (ok (x .names))
+      (subst (λ (a : Act). Matches R (applied t x .tables) (acted ρ a)) (sym (rules-read ρ (step-taken (f .together) s p o (f .header-is) ρ (f .agrees))))
+      (record { header-is = f .header-is; agrees = step-agrees (f .together) s p o (f .header-is) ρ (f .agrees) }))
+  by-verdict (verdicts.Refused k) d = kept (callOf s) f
+
+  verdict-takes : (v : Verdict) → decision t s ≡ v → accepts (byVerdict t v .answer) ≡ true → Taken HD R ρ (callOf s)
+  verdict-takes (verdicts.Takes x) d a =
+      let k = step-taken (f .together) s (decision-takes t s d .0) (step-sends t s d) (f .header-is) ρ (f .agrees) in
+      subst (Takes parallel R (ρ .terms) (ρ .log) (callOf s)) (sym (rules-read ρ k)) k
+  verdict-takes (verdicts.Refused k) d a = no-true a
+
+-- ---- a term
+
+module _ {R : Realm} {t : Tables} {ρ : Reading Event} (f : Follows R t ρ) (kind l r : ℕ) (size : Sized (calls.Term kind l r)) where
+  by-adding : (a : terms.Answer) (count : ℕ) (ts : List ℕ)
+      → addOf (t .realm .n) (t .terms) (t .realm .terms) (packed kind l r) ≡ record { answer = a; count = count; table = ts }
+      → let o = withTerm t (adding (t .realm) (record { answer = a; count = count; table = ts })) in Matches R (o .tables) (read HD (accepts (o .answer)) (calls.Term kind l r) ρ)
+  by-adding (terms.number i) count ts e =
+      record { header-is = f .header-is; agrees = adding-agrees (f .together) kind l r size e (f .header-is) ρ (f .agrees) }
+  by-adding (terms.refused k) count ts e =
+      let same = subst (Adds (t .realm .n) (t .terms) (t .realm .terms) (packed kind l r)) e (adds (f .together .terms-hold) (packed kind l r)) .is in
+      rw (same .0, same .1) (kept (calls.Term kind l r) f)
+
+  adding-takes : (a : terms.Answer) (count : ℕ) (ts : List ℕ)
+      → addOf (t .realm .n) (t .terms) (t .realm .terms) (packed kind l r) ≡ record { answer = a; count = count; table = ts }
+      → accepts (withTerm t (adding (t .realm) (record { answer = a; count = count; table = ts })) .answer) ≡ true → Taken HD R ρ (calls.Term kind l r)
+  adding-takes (terms.number i) count ts e a = adding-taken (f .together) kind l r size e (f .header-is) ρ (f .agrees)
+  adding-takes (terms.refused k) count ts e a = no-true a
+
+-- ---- any call
+
+call-matches : {R : Realm} (t : Tables) (ρ : Reading Event) (c : Call) → Sized c → Follows R t ρ → Matches R (called t c .tables) (read HD (accepts (called t c .answer)) c ρ)
+unfolding called stepped
+call-matches t ρ (calls.Term kind l r) size f = by-adding f kind l r size _ _ _ refl
+call-matches t ρ (calls.Step step run a b m time) size f =
+    let s : Step = record { step = step; run = run; a = a; b = b; m = m; t = time } in
+    by-verdict f s (decision t s) refl
+
+pub call-follows : {R : Realm} (t : Tables) (ρ : Reading Event) (c : Call) → Sized c → Follows R t ρ → Follows R (called t c .tables) (read HD (accepts (called t c .answer)) c ρ)
+call-follows t ρ c size f =
+    let m = call-matches t ρ c size f in
+    record { header-is = m .header-is; together = call-kept t c size (f .together); agrees = m .agrees }
+
+pub call-takes : {R : Realm} (t : Tables) (ρ : Reading Event) (c : Call) → Sized c → Follows R t ρ → accepts (called t c .answer) ≡ true → Taken HD R ρ c
+unfolding called stepped
+call-takes t ρ (calls.Term kind l r) size f a = adding-takes f kind l r size _ _ _ refl a
+call-takes t ρ (calls.Step step run x y m time) size f a =
+    let s : Step = record { step = step; run = run; a = x; b = y; m = m; t = time } in
+    verdict-takes f s (decision t s) refl a
+
+-- ---- a new realm
+
+-- nothing is on the wire of the empty log
+abbrev none : Log
+none = []
+
+none-sent : {m : Message} → OnWire none m → ⊥
+none-sent (on-wire i j) = elim i [ ]
+
+pub new-follows : {R : Realm} {t : Tables} → New R t → Follows R t (empty HD)
+unfolding meanings rowsOf
+new-follows {t = t} n =
+    record {
+      header-is = n .header-is;
+      together = n .together;
+      agrees = record {
+        clock-is = n .clock;
+        runs-are = ap (rowsOf (t .runs)) (n .runs);
+        terms-are = ap (meanings (t .terms)) (n .terms);
+        wire-is = λ m. (λ k. absurd (omega (arith, k .below, n .terms)), λ k. absurd (none-sent k));
+        cache-is = ap (λ (count : ℕ). map logged (entries (t .cache) count)) (n .entries);
+      };
+    }
+
+-- ---- the engine
+
+abbrev pub engineOf : (R : Realm) (t : Tables) → New R t → Engine HD R
+engineOf R t n =
+    record {
+      State = Tables;
+      start = t;
+      answer = λ s c. called s c .answer;
+      next = λ s c. called s c .tables;
+      tables = valuesOf;
+      Fits = Follows R;
+      agrees = λ s ρ f. f .agrees;
+      fits-start = new-follows n;
+      fits-next = λ s ρ c size f. call-follows s ρ c size f;
+      takes = λ s ρ c size f a. call-takes s ρ c size f a;
+    }

@@ -1,0 +1,23 @@
+-- `steps::begin` meets its contract: by the law for each way out. Assumes nothing.
+use mathlib.Core.Path.{_∙_}
+use Rattle.steps.specs.Laws.{no-room, run-opened}
+use borrow.Author.Needs.{needs}
+use Rattle.steps.proofs.begin.Statement.{statement}
+use Rattle.steps.proofs.begin.Tie as tie
+
+returns : tie.Need-returns
+returns c = let a = c .before .before .args in no-room (a .h) (a .role) (a .a) (a .b) (a .sends) (c .if1 .taken)
+
+cast-r : tie.Need-cast-r
+cast-r c = search needs
+
+open-run-requires : tie.Need-open-run-requires
+open-run-requires c κs = search needs
+
+returns-2 : tie.Need-returns-2
+returns-2 c =
+    let a = c .before .before .before .before .args in
+    c .open-run .ensures ∙ run-opened (a .h) (a .role) (a .a) (a .b) (a .sends) (c .before .before .if1 .left)
+
+pub begin-spec : {M : Type 1} → statement M
+begin-spec = tie.close (tie.spec returns cast-r open-run-requires returns-2)
