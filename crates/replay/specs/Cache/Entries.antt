@@ -48,6 +48,14 @@ module _ (x y : Entry) where
 
 -- ---- stays
 
+-- a life that is not over at a clock ends after it
+still : (end now clock : ℕ) → now ≡ clock → not (leb end now) ≡ ltb clock end
+still end now clock e = on (leb end now) refl
+  where
+    on : (t : Bool) → leb end now ≡ t → not t ≡ ltb clock end
+    on true h = let l = leb-true end now h in sym (le-ltb clock end (omega (arith, l, e)))
+    on false h = let l = leb-false end now h in sym (lt-ltb clock end (omega (arith, l, e)))
+
 module _ (p : Purge) (x : Entry) where
   pub stays-other : (x .b ≡ p .b → ⊥) → stays p x ≡ true
   unfolding stays
@@ -55,22 +63,19 @@ module _ (p : Purge) (x : Entry) where
 
   pub stays-own : x .b ≡ p .b → stays p x ≡ ltb (p .clock) (x .ta + p .la)
   unfolding stays
-  stays-own e = rw (eq-eqb (x .b) (p .b) e) (on (leb (x .ta + p .la) (p .clock)) refl)
-    where
-      on : (t : Bool) → leb (x .ta + p .la) (p .clock) ≡ t → not t ≡ ltb (p .clock) (x .ta + p .la)
-      on true h = sym (le-ltb (p .clock) (x .ta + p .la) (leb-true (x .ta + p .la) (p .clock) h))
-      on false h = sym (lt-ltb (p .clock) (x .ta + p .la) (leb-false (x .ta + p .la) (p .clock) h))
+  stays-own e = rw (eq-eqb (x .b) (p .b) e) (still (x .ta + p .la) _ (p .clock) (omega arith))
 
   -- what goes is the principal's own, and its life is over
   pub goes : stays p x ≡ false → (x .b ≡ p .b) × (x .ta + p .la ≤ p .clock)
   unfolding stays
   goes h =
-      let t = and-true (eqb (x .b) (p .b)) (leb (x .ta + p .la) (p .clock)) (not-false _ h) in
-      (eqb-true (x .b) (p .b) (t .0), leb-true (x .ta + p .la) (p .clock) (t .1))
+      let t = and-true (eqb (x .b) (p .b)) (leb (x .ta + p .la) _) (not-false _ h) in
+      let l = leb-true (x .ta + p .la) _ (t .1) in
+      (eqb-true (x .b) (p .b) (t .0), omega (arith, l))
 
   pub goes-if : x .b ≡ p .b → x .ta + p .la ≤ p .clock → stays p x ≡ false
   unfolding stays
-  goes-if e l = rw (eq-eqb (x .b) (p .b) e, le-leb (x .ta + p .la) (p .clock) l)
+  goes-if e l = rw (eq-eqb (x .b) (p .b) e) (ap not (le-leb (x .ta + p .la) _ (omega (arith, l))))
 
 -- ---- present
 
