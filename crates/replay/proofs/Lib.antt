@@ -1,7 +1,1 @@
-pub mod Change
-pub mod Copying
-pub mod Loading
-pub mod Returned
-pub mod Rows
 pub mod Sweep
-pub mod Tests

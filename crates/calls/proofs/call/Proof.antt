@@ -56,15 +56,15 @@ use Rattle.effects.proofs.apply.After as 𝓕
 use Rattle.effects.proofs.apply.After.Laws as 𝓕′
 use Rattle.calls.proofs.Called as 𝓓
 use Rattle.calls.proofs.Values.{realm-val, realm-tells, realm-makes, realm-typed, call-val, call-tells, call-makes, call-typed, answer-typed, refused-is, after-val, after-typed, after-realm, after-cache, after-answer, called, called-val, called-is, called-makes, called-typed}
-use Rattle.replay.proofs.Rows.{R, Sixteen, S-makes, S-typed}
-use Rattle.replay.proofs.Tests.{guards, ne-holds, ne-fails}
-use Rattle.replay.proofs.Loading.{Load, Store, loads, stores}
-use Rattle.replay.proofs.lent.load.Symbol as load-def
-use Rattle.replay.proofs.lent.load.Symbol.{name as #load}
-use Rattle.replay.proofs.lent.load.Met as load-thm
-use Rattle.replay.proofs.lent.store.Symbol as store-def
-use Rattle.replay.proofs.lent.store.Symbol.{name as #store}
-use Rattle.replay.proofs.lent.store.Met as store-thm
+use Rattle.lent_cache.proofs.Rows.{R, Sixteen, S-makes, S-typed}
+use Rattle.lent_cache.proofs.Tests.{guards, ne-holds, ne-fails}
+use Rattle.lent_cache.proofs.Loading.{Load, Store, loads, stores}
+use Rattle.lent_cache.proofs.load.Symbol as load-def
+use Rattle.lent_cache.proofs.load.Symbol.{name as #load}
+use Rattle.lent_cache.proofs.load.Met as load-thm
+use Rattle.lent_cache.proofs.store.Symbol as store-def
+use Rattle.lent_cache.proofs.store.Symbol.{name as #store}
+use Rattle.lent_cache.proofs.store.Met as store-thm
 use Rattle.engine.proofs.lent.checked_call as core
 use Rattle.engine.proofs.lent.checked_call.Symbol as core-def
 use Rattle.engine.proofs.lent.checked_call.Symbol.{name as #core}
@@ -259,6 +259,6 @@ call-spec 𝓤 H 𝓜 𝓖 𝓡 =
     entered 𝓤 H (tripleOf 𝓤 H (𝓖 .A) f.signature (f.spec 𝓤 H (𝓖 .A) (𝓜 .mem) (𝓡 .run)))
     (tables 𝓤 H 𝓜 𝓡 code.env .C) (tables 𝓤 H 𝓜 𝓡 code.env .Λ) #call code.function (code.unfolded 𝓤 H 𝓜 𝓡)
     (call-meets 𝓤 H (𝓖 .A) (givenOf 𝓤 H 𝓜 𝓖) (𝓜 .mem) (𝓡 .run) (tablesOf 𝓤 H 𝓜 (tables 𝓤 H 𝓜 𝓡 code.env))
-    (cited 𝓤 H (Load 𝓤 H (𝓖 .A) (𝓜 .mem) (𝓡 .run)) 𝓜 𝓡 code.env #load load-def.routine code.calls-replay·lent·load (load-thm.met 𝓤 H 𝓜 𝓖 𝓡))
+    (cited 𝓤 H (Load 𝓤 H (𝓖 .A) (𝓜 .mem) (𝓡 .run)) 𝓜 𝓡 code.env #load load-def.routine code.calls-lent-cache·load (load-thm.met 𝓤 H 𝓜 𝓖 𝓡))
     (cited 𝓤 H (Core 𝓤 H (𝓖 .A) (𝓜 .mem) (𝓡 .run)) 𝓜 𝓡 code.env #core core-def.routine code.calls-engine·lent·checked-call (core-thm.met 𝓤 H 𝓜 𝓖 𝓡))
-    (cited 𝓤 H (Store 𝓤 H (𝓖 .A) (𝓜 .mem) (𝓡 .run)) 𝓜 𝓡 code.env #store store-def.routine code.calls-replay·lent·store (store-thm.met 𝓤 H 𝓜 𝓖 𝓡)))
+    (cited 𝓤 H (Store 𝓤 H (𝓖 .A) (𝓜 .mem) (𝓡 .run)) 𝓜 𝓡 code.env #store store-def.routine code.calls-lent-cache·store (store-thm.met 𝓤 H 𝓜 𝓖 𝓡)))

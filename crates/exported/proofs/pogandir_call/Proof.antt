@@ -56,7 +56,7 @@ use Rattle.exported.proofs.Record as 𝓠
 use Rattle.exported.proofs.Reply as 𝓟
 use Rattle.calls.proofs.Values.{realm-val, realm-tells, realm-makes, realm-typed, call-val, call-tells, call-makes, call-typed, called-val, called-makes, called-typed}
 use Rattle.exported.proofs.Values.{record-val, record-tells, record-makes, record-typed, called-tells, reply-makes, reply-typed}
-use Rattle.replay.proofs.Rows.{R}
+use Rattle.lent_cache.proofs.Rows.{R}
 use Rattle.calls.proofs.call as lent
 use Rattle.calls.proofs.call.Symbol as lent-def
 use Rattle.calls.proofs.call.Symbol.{name as #lent}

@@ -17,18 +17,18 @@ use denote.Laws.{Is, Makes, Typed}
 use denote.Array.{each}
 use denote.Index.{row}
 use denote.Struct.Laws as SL
 use Rattle.replay.specs.declared.entry.Entry.{Entry}
 use Rattle.replay.proofs.entry.Entry as 𝓔
 use Rattle.replay.proofs.entry.Entry.Laws as 𝓔′
 use denote.Enum.Laws as EL
 use Rattle.replay.specs.declared.cache.After.{After}
 use Rattle.replay.specs.declared.entry.Answer.{Answer}
 use Rattle.replay.specs.declared.entry.Answer.the-variants.{Refused}
 use Rattle.replay.proofs.cache.After as 𝓚
 use Rattle.replay.proofs.cache.After.Laws as 𝓚′
 use Rattle.replay.proofs.entry.Answer as 𝓒
 use Rattle.replay.proofs.entry.Answer.Laws as 𝓒′
-use Rattle.replay.proofs.Rows.{R, R-val, Sixteen, S-vals}
+use Rattle.lent_cache.proofs.Rows.{R, R-val, Sixteen, S-vals}
 
 abbrev pub answer-val : Answer → Val
 answer-val = 𝓒′.lowered

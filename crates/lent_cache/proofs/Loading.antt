@@ -39,11 +39,11 @@ use denote.Triple.Statement.{Contract, Triple}
 use denote.Triple.Call.{calls-at}
 use denote.Triple.Clauses.{ensured, lasts}
 use denote.Triple.Walked.{says}
-use Rattle.replay.proofs.lent.load as load′
-use Rattle.replay.proofs.lent.store as store′
-use Rattle.replay.proofs.lent.load.Symbol.{name as #load}
-use Rattle.replay.proofs.lent.store.Symbol.{name as #store}
-use Rattle.replay.proofs.Rows.{R, Sixteen, S-vals, S-val, S-makes}
+use Rattle.lent_cache.proofs.load as load′
+use Rattle.lent_cache.proofs.store as store′
+use Rattle.lent_cache.proofs.load.Symbol.{name as #load}
+use Rattle.lent_cache.proofs.store.Symbol.{name as #store}
+use Rattle.lent_cache.proofs.Rows.{R, Sixteen, S-vals, S-val, S-makes}
 
 module _ {M : Type 1} (𝓤 : URA M) (H : Heap 𝓤) (A : Atoms 𝓤) (mem : Memory → SProp 𝓤) (run : Routine → Fun 𝓤) where
   abbrev pub Load : Contract 𝓤

@@ -2,14 +2,14 @@
 // places are stored back. Each function with a `&[Entry]` or a `&mut [Entry]` in it is proved by a walk of its MIR, by hand.
 ghost use mathlib.Core.Path.{_≡_};
 ghost use lib.ListN.{length};
 ghost use Rattle.replay.specs.Cache.{outcome, remembered, forgotten};
-use crate::cache;
-use crate::entry::Answer;
-use crate::entry::EMPTY;
-use crate::entry::Entry;
-use crate::entry::PLACES;
-use crate::entry::Purge;
-use crate::entry::REFUSE_TABLES;
+use replay::cache;
+use replay::entry::Answer;
+use replay::entry::EMPTY;
+use replay::entry::Entry;
+use replay::entry::PLACES;
+use replay::entry::Purge;
+use replay::entry::REFUSE_TABLES;
 
 // The sixteen places of a lent list, by value.
 pub fn load(list: &[Entry]) -> [Entry; PLACES]

@@ -1,4 +1,4 @@
--- `lent::store` meets its contract: a walk of its MIR, by hand. The borrow is opened once, before the loop, and closed after it.
+-- `lent_cache::store` meets its contract: a walk of its MIR, by hand. The borrow is opened once, before the loop, and closed after it.
 -- In between there are two rows of entries, the slice's and the local array's; each turn copies one entry from the array to the
 -- slice (`Copying.antt`).
 -- Assumes nothing.
@@ -40,17 +40,17 @@ use denote.Triple.Spec.{Meets, tripleOf}
 use denote.Triple.Table.{entered}
 use denote.Triple.Walked.{says, needs, Stays, stay-slice, stay-none, walkOf, Walks, ends-at, walked, goes-slice, goes-none, walk-meets}
 use denote.Exit.{yes}
 use Rattle.replay.specs.declared.entry.Entry.{Entry}
 use Rattle.replay.specs.Cache.{empty}
 use Rattle.replay.proofs.entry.Entry.Laws as 𝓔′
-use Rattle.replay.proofs.Rows.{R, R-vals, R-typed, Sixteen, S-vals, S-val, S-mir, S-tells, S-makes, S-typed, array-in, array-out, entry-out, entry-put}
-use Rattle.replay.proofs.Tests.{tests}
-use Rattle.replay.proofs.Copying.{Copying, Nearer, Nearer-wf, start, more, all-copied}
-use Rattle.replay.proofs.lent.store as f
-use Rattle.replay.proofs.lent.store.Key.{name as #store}
-use Rattle.replay.proofs.lent.store.Statement as stated
-use Rattle.replay.proofs.lent.store.Code as code
-use Rattle.replay.proofs.lent.store.Code.Mir as code-mir
+use Rattle.lent_cache.proofs.Rows.{R, R-vals, R-typed, Sixteen, S-vals, S-val, S-mir, S-tells, S-makes, S-typed, array-in, array-out, entry-out, entry-put}
+use Rattle.lent_cache.proofs.Tests.{tests}
+use Rattle.lent_cache.proofs.Copying.{Copying, Nearer, Nearer-wf, start, more, all-copied}
+use Rattle.lent_cache.proofs.store as f
+use Rattle.lent_cache.proofs.store.Key.{name as #store}
+use Rattle.lent_cache.proofs.store.Statement as stated
+use Rattle.lent_cache.proofs.store.Code as code
+use Rattle.lent_cache.proofs.store.Code.Mir as code-mir
 
 abbrev stayed : Stays (f.ended .signature .params) (f.ended .kept)
 stayed = (stay-slice (0 ∷ []) tt (plain (λ _. R)), (stay-none (λ _. Sixteen) yes, tt))

@@ -1,4 +1,4 @@
--- `lent::remember` and `lent::forget` are one body, but for the type of their last parameter and the call by value that they
+-- `lent_cache::remember` and `lent_cache::forget` are one body, but for the type of their last parameter and the call by value that they
 -- make. This is its walk: a list of other than sixteen places is refused; else the places are loaded, the call is made on them
 -- by value, and what it gives back is stored. All that is known of `load`, the call and `store` is that each meets its contract.
 --   Call: what the body leaves open
@@ -44,22 +44,22 @@ use denote.Triple.Call.{calls-at}
 use denote.Triple.Clauses.{Ended, Clauses, closing, ensured, lasts}
 use denote.Triple.Walked.{says, Stays, gave-slice, stay-dropped, walkOf, Walks, ends-at, walked, goes-gave-slice, goes-dropped, walk-meets}
 use denote.Exit.{Last, left, yes}
 use Rattle.replay.specs.declared.entry.Entry.{Entry}
 use Rattle.replay.specs.declared.entry.Answer.{Answer}
 use Rattle.replay.specs.declared.entry.Answer.the-variants.{Refused}
 use Rattle.replay.specs.declared.cache.After.{After}
 use Rattle.replay.specs.Cache.{Outcome, refused, outcome}
 use Rattle.replay.proofs.entry.Entry.Laws as 𝓔′
 use Rattle.replay.proofs.cache.After as 𝓚
 use Rattle.replay.proofs.cache.After.Laws as 𝓚′
 use Rattle.replay.proofs.entry.Answer as 𝓒
 use Rattle.replay.proofs.entry.Answer.Laws as 𝓒′
-use Rattle.replay.proofs.Rows.{R, Sixteen, S-mir, S-makes, S-typed}
-use Rattle.replay.proofs.Tests.{guards, ne-holds, ne-fails}
-use Rattle.replay.proofs.Returned.{answer-val, answer-makes, answer-typed, after-typed, refused-is, after-val, after-answer, after-places}
-use Rattle.replay.proofs.Loading.{Load, Store, loads, stores}
-use Rattle.replay.proofs.lent.load.Symbol.{name as #load}
-use Rattle.replay.proofs.lent.store.Symbol.{name as #store}
+use Rattle.lent_cache.proofs.Rows.{R, Sixteen, S-mir, S-makes, S-typed}
+use Rattle.lent_cache.proofs.Tests.{guards, ne-holds, ne-fails}
+use Rattle.lent_cache.proofs.Returned.{answer-val, answer-makes, answer-typed, after-typed, refused-is, after-val, after-answer, after-places}
+use Rattle.lent_cache.proofs.Loading.{Load, Store, loads, stores}
+use Rattle.lent_cache.proofs.load.Symbol.{name as #load}
+use Rattle.lent_cache.proofs.store.Symbol.{name as #store}
 
 -- What the body leaves open: the type of its last parameter, a struct of numbers, with its laws; what the call comes to; and the name of the call by value.
 pub record Call : Type 2 where

@@ -1,4 +1,4 @@
--- `lent::load` meets its contract: a walk of its MIR, by hand. The slice is looked into once, before the loop, and shut after it.
+-- `lent_cache::load` meets its contract: a walk of its MIR, by hand. The slice is looked into once, before the loop, and shut after it.
 -- In between there are two rows of entries, the slice's and the local array's; each turn copies one entry from the one to the
 -- other (`Copying.antt`).
 -- Assumes nothing.
@@ -41,18 +41,18 @@ use denote.Triple.Spec.{Meets, tripleOf}
 use denote.Triple.Table.{entered}
 use denote.Triple.Walked.{says, needs, Stays, stay-none-slice, walkOf, Walks, ends-at, walked, goes-none-slice, walk-meets}
 use denote.Exit.{yes}
 use Rattle.replay.specs.declared.entry.Entry.{Entry}
 use Rattle.replay.specs.Cache.{empty}
 use Rattle.replay.proofs.entry.Entry as 𝓔
 use Rattle.replay.proofs.entry.Entry.Laws as 𝓔′
-use Rattle.replay.proofs.Rows.{R, R-val, R-vals, R-tells, R-typed, Sixteen, S-vals, S-val, S-mir, S-makes, S-typed, empty-is, empties-are, array-in, array-out, entry-out, entry-put}
-use Rattle.replay.proofs.Copying.{Copying, Nearer, Nearer-wf, start, more, all-copied}
-use Rattle.replay.proofs.Tests.{tests}
-use Rattle.replay.proofs.lent.load as f
-use Rattle.replay.proofs.lent.load.Key.{name as #load}
-use Rattle.replay.proofs.lent.load.Statement as stated
-use Rattle.replay.proofs.lent.load.Code as code
-use Rattle.replay.proofs.lent.load.Code.Mir as code-mir
+use Rattle.lent_cache.proofs.Rows.{R, R-val, R-vals, R-tells, R-typed, Sixteen, S-vals, S-val, S-mir, S-makes, S-typed, empty-is, empties-are, array-in, array-out, entry-out, entry-put}
+use Rattle.lent_cache.proofs.Copying.{Copying, Nearer, Nearer-wf, start, more, all-copied}
+use Rattle.lent_cache.proofs.Tests.{tests}
+use Rattle.lent_cache.proofs.load as f
+use Rattle.lent_cache.proofs.load.Key.{name as #load}
+use Rattle.lent_cache.proofs.load.Statement as stated
+use Rattle.lent_cache.proofs.load.Code as code
+use Rattle.lent_cache.proofs.load.Code.Mir as code-mir
 
 abbrev stayed : Stays (f.ended .signature .params) (f.ended .kept)
 stayed = (stay-none-slice (0 ∷ []) tt (plain (λ _. R)) yes, tt)
