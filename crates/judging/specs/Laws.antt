@@ -1,64 +1,20 @@
--- Laws for the proofs of the code: two texts from a place on, the buffer of the listing, the totals.
+-- A law for the proof of the code: a buffer that is long enough has room for the listing.
 -- Assumes nothing.
 use mathlib.Core.Bool.{Bool, true, false}
 use mathlib.Core.List.{List}
 use mathlib.Core.Path.{_≡_}
-use Prim.Native.Nat.{ℕ, _+_, _<_, _≤_}
+use Prim.Native.Nat.{ℕ, _≤_}
 use native.Mathlib.Omega.{arith}
-use native.Mathlib.Numerals.{add-one}
 use lib.Dec.{ltb}
-use lib.ListN.{length, drop, getD, drop-of-length-le}
-use lib.Seq.{drop-cons}
-use borrow.Author.Tests.{eq-eqb, ne-eqb, le-ltb}
+use lib.ListN.{length}
+use borrow.Author.Tests.{le-ltb}
 use Rattle.terms.specs.Choice.{pick}
 use Rattle.walkfile.specs.Listing.{listingBytes, listed, no-room, written}
-use Rattle.judging.specs.declared.Verdict.the-variants.{Same, Line}
-use Rattle.judging.specs.Compare.{lineAfter, difference, disagreements}
-
--- ---- two texts from a place on
-
-pub newline : (line byte next : ℕ) → byte ≡ 10 → next ≡ line + 1 → next ≡ lineAfter line byte
-newline line byte next e n = rw (eq-eqb byte 10 e, ← add-one line) n
-
-pub other-byte : (line byte next : ℕ) → (byte ≡ 10 → ⊥) → next ≡ line → next ≡ lineAfter line byte
-other-byte line byte next e n = rw (ne-eqb byte 10 e) n
-
-module _ (line : ℕ) (a b : List ℕ) (i : ℕ) where
-  pub both-end : length a ≤ i → length b ≤ i → Same ≡ difference line (drop i a) (drop i b)
-  unfolding difference
-  both-end p q = rw (drop-of-length-le a p, drop-of-length-le b q)
-
-  pub first-ends : length a ≤ i → i < length b → Line line ≡ difference line (drop i a) (drop i b)
-  unfolding difference
-  first-ends p q = rw (drop-of-length-le a p, drop-cons b i 0 q)
-
-  pub second-ends : i < length a → length b ≤ i → Line line ≡ difference line (drop i a) (drop i b)
-  unfolding difference
-  second-ends p q = rw (drop-cons a i 0 p, drop-of-length-le b q)
-
-  module _ (p : i < length a) (q : i < length b) where
-    pub bytes-differ : (getD a i 0 ≡ getD b i 0 → ⊥) → Line line ≡ difference line (drop i a) (drop i b)
-    unfolding difference
-    bytes-differ n = rw (drop-cons a i 0 p, drop-cons b i 0 q, ne-eqb (getD a i 0) (getD b i 0) n)
-
-    pub goes-on : (next : ℕ) → getD a i 0 ≡ getD b i 0 → next ≡ lineAfter line (getD a i 0)
-        → difference next (drop (i + 1) a) (drop (i + 1) b) ≡ difference line (drop i a) (drop i b)
-    unfolding difference
-    goes-on next e n = rw (n, add-one i, drop-cons a i 0 p, drop-cons b i 0 q, eq-eqb (getD a i 0) (getD b i 0) e)
-
--- ---- the buffer
 
 by-room : (b : Bool) (buffer after : List ℕ) (count : ℕ) (wrote : List ℕ) → b ≡ false → no-room after ≡ pick b (no-room buffer) (written count wrote) → ⊥
 by-room true buffer after count wrote f e = let z : _≡_ {A = ℕ} 0 1 = cc in omega arith
 by-room false buffer after count wrote f e = let z : _≡_ {A = ℕ} 0 1 = cc in omega arith
 
--- a buffer that is long enough has room
 pub has-room : (file buffer after : List ℕ) → listingBytes ≤ length buffer → no-room after ≡ listed file buffer → ⊥
 unfolding listed
 has-room file buffer after h e = by-room (ltb (length buffer) listingBytes) buffer after _ _ (le-ltb (length buffer) listingBytes h) e
-
--- ---- the totals
-
-pub at-most-one : (agrees : Bool) → disagreements agrees ≤ 1
-at-most-one true = omega arith
-at-most-one false = omega arith

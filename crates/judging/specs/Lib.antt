@@ -1,4 +1,2 @@
--- A walk's listing against a stored one. Promises is to be read first.
-pub mod Promises
-pub mod Compare
+-- A walk file's listing against a stored one: what a verdict says is in `comparison`.
 pub mod Laws

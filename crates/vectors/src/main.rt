@@ -5,12 +5,12 @@
 // on the next line, that of its listing.
 use bytes::scan::find;
 use check::same;
+use comparison::NEWLINE;
+use comparison::Totals;
+use comparison::Verdict;
+use comparison::counted;
 use io::print_decimal;
 use io::write_all;
-use judging::NEWLINE;
-use judging::Totals;
-use judging::Verdict;
-use judging::counted;
 use judging::judge;
 use libc::STDOUT_FILENO;
 use walkfile::LISTING_BYTES;
@@ -18,7 +18,7 @@ ghost use mathlib.Core.Path.{_≡_};
 ghost use Prim.Native.Nat.{_<_, _≤_};
 ghost use lib.ListN.{length};
 ghost use Rattle.io.specs.Counts.{Counts};
-ghost use Rattle.judging.specs.Compare.{isSame};
+ghost use Rattle.comparison.specs.Compare.{isSame};
 
 // The longest walk file is one byte shorter.
 const WALK_BYTES: usize = 65537;

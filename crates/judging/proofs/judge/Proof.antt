@@ -8,7 +8,7 @@ use borrow.Author.Needs.{needs}
 use Rattle.walkfile.specs.declared.Listing.{Listing}
 use Rattle.walkfile.specs.Listing.{outcome, written, listed}
 use Rattle.walkfile.specs.Promises.{counts, start-is}
-use Rattle.judging.specs.Compare.{difference}
+use Rattle.comparison.specs.Compare.{difference}
 use Rattle.judging.specs.Laws.{has-room}
 use Rattle.judging.proofs.judge.Statement.{statement}
 use Rattle.judging.proofs.judge.Tie as tie

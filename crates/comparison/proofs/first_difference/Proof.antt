@@ -4,11 +4,11 @@ use mathlib.Core.Path.{_≡_, _∙_}
 use Prim.Native.Nat.{_≤_, _-_, _+_}
 use native.Mathlib.Omega.{arith}
 use lib.ListN.{length, drop, getD}
-use Rattle.judging.specs.Compare.{lineAfter, difference}
-use Rattle.judging.specs.Laws as laws
+use Rattle.comparison.specs.Compare.{lineAfter, difference}
+use Rattle.comparison.specs.Laws as laws
 use borrow.Author.Needs.{needs}
-use Rattle.judging.proofs.first_difference.Statement.{statement}
-use Rattle.judging.proofs.first_difference.Tie as tie
+use Rattle.comparison.proofs.first_difference.Statement.{statement}
+use Rattle.comparison.proofs.first_difference.Tie as tie
 
 abbrev Inv-loop : tie.InvT-loop
 Inv-loop a b line₀ i₀ line i =

@@ -2,8 +2,8 @@
 use mathlib.Core.Path.{refl}
 use native.Mathlib.Omega.{arith}
 use borrow.Author.Needs.{needs}
-use Rattle.judging.proofs.counted.Statement.{statement}
-use Rattle.judging.proofs.counted.Tie as tie
+use Rattle.comparison.proofs.counted.Statement.{statement}
+use Rattle.comparison.proofs.counted.Tie as tie
 
 add-t4 : tie.Need-add-t4
 add-t4 c = search needs

@@ -1,5 +1,5 @@
 -- What the crate promises beside the contracts: a verdict is `Same` exactly if the two texts are the same. By the contract of
--- `judge` these are the listing that is defined for the walk file (`walkfile`, Listing) and the stored one.
+-- `judging::judge` these are the listing that is defined for the walk file (`walkfile`, Listing) and the stored one.
 -- Assumes nothing.
 use mathlib.Core.Bool.{Bool, true, false}
 use mathlib.Core.List.{List, [], _∷_}
@@ -9,9 +9,9 @@ use native.Mathlib.Omega.{arith}
 use lib.Dec.{eqb}
 use borrow.Author.Tests.{eqb-true, eq-eqb}
 use Rattle.terms.specs.Choice.{pick}
-use Rattle.judging.specs.declared.Verdict.{Verdict}
-use Rattle.judging.specs.declared.Verdict.the-variants.{Same, Line}
-use Rattle.judging.specs.Compare.{lineAfter, difference}
+use Rattle.comparison.specs.declared.Verdict.{Verdict}
+use Rattle.comparison.specs.declared.Verdict.the-variants.{Same, Line}
+use Rattle.comparison.specs.Compare.{lineAfter, difference}
 
 -- A text is the same as itself,
 pub itself : (line : ℕ) (xs : List ℕ) → difference line xs xs ≡ Same
