@@ -30,7 +30,7 @@ impl Header {
     }
 
     /// Refusal 2, condition by condition.
-    fn check(self) -> Result<Header, Refusal> {
+    pub fn check(self) -> Result<Header, Refusal> {
         let n = self.principals;
         let n_in_range = (MIN_PRINCIPALS..=MAX_PRINCIPALS).contains(&n);
         let flag_on_server = self.flags & 1 == 1;

@@ -8,6 +8,7 @@ pub mod listing;
 pub mod realm;
 pub mod refusal;
 pub mod steps;
+pub mod tables;
 pub mod terms;
 
 pub use listing::listing;

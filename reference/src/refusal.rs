@@ -1,7 +1,6 @@
 //! The numbers by which a record is turned away.
 
-/// A refusal is its number alone. Number 10 is missing: it is given for tables
-/// that a library caller hands in, and no file can make such tables.
+/// A refusal is its number alone.
 #[derive(Clone, Copy, Debug, PartialEq, Eq, PartialOrd, Ord, Hash)]
 #[repr(u8)]
 pub enum Refusal {
@@ -17,6 +16,9 @@ pub enum Refusal {
     UnusedField = 5,
     /// A field names something that is not there.
     BadReference = 6,
+    /// Tables that do not hold together. Only a library caller meets it: no
+    /// file can make such tables.
+    BrokenTables = 10,
     /// The run's role or stage does not fit.
     WrongStage = 11,
     /// The clock would go back.
