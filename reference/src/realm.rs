@@ -155,7 +155,7 @@ impl Realm {
         Ok(self.terms.make(shape))
     }
 
-    fn principal(&self, number: u16) -> Result<u8, Refusal> {
+    pub fn principal(&self, number: u16) -> Result<u8, Refusal> {
         if number < u16::from(self.header.principals) {
             Ok(number as u8)
         } else {
@@ -163,7 +163,7 @@ impl Realm {
         }
     }
 
-    fn term(&self, number: u16) -> Result<Message, Refusal> {
+    pub fn term(&self, number: u16) -> Result<Message, Refusal> {
         self.terms.at(number).cloned().ok_or(Refusal::BadReference)
     }
 
@@ -200,7 +200,7 @@ impl Realm {
     }
 }
 
-fn nonce_or_key(number: u16) -> Result<u8, Refusal> {
+pub fn nonce_or_key(number: u16) -> Result<u8, Refusal> {
     if number <= u16::from(MAX_NONCE_OR_KEY) {
         Ok(number as u8)
     } else {

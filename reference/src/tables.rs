@@ -55,6 +55,24 @@ impl Tables {
         Ok(answer)
     }
 
+    /// Adds a message with all its parts, or nothing, as a step that sends it
+    /// does; its number.
+    pub fn add_message(
+        &mut self,
+        message: impl FnOnce(&mut Realm) -> Result<Message, Refusal>,
+    ) -> Result<u16, Refusal> {
+        let mut realm = self.realm()?;
+        let message = message(&mut realm)?;
+        let missing = realm.terms.missing(&[message.clone()]);
+        if !realm.terms.has_room_for(missing.len()) {
+            return Err(Refusal::TermsFull);
+        }
+        realm.terms.add(missing);
+        let runs = realm.runs.clone();
+        self.store(&realm, &runs);
+        Ok(number_of(&realm.terms, &message) as u16)
+    }
+
     /// The realm that the tables tell of, or refusal 10.
     pub fn realm(&self) -> Result<Realm, Refusal> {
         let header = self.header.check().map_err(|_| Refusal::BrokenTables)?;

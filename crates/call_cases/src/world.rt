@@ -4,6 +4,7 @@ use super::show::print_cache;
 use super::show::print_realm;
 use super::show::print_runs;
 use cases::Line;
+use cases::least;
 use cases::print_changes;
 use cases::print_text;
 use effects::apply::After;
@@ -14,7 +15,6 @@ use realm::header::Opening;
 use realm::header::Realm;
 use realm::header::open_realm;
 use replay::entry::Entry;
-ghost use Prim.Native.Nat.{_≤_};
 
 // The words of a run.
 const ROW: usize = 7;
@@ -142,12 +142,6 @@ fn open(w: World, line: Line) -> World {
             w
         }
     }
-}
-
-fn least(x: usize, y: usize) -> usize
-    ensures { λ r. ⌜ r ≤ y ⌝ }
-{
-    if x < y { x } else { y }
 }
 
 // A call on the first places of the tables.

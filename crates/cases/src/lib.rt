@@ -92,6 +92,13 @@ pub fn print_text(bytes: [u8; 68]) {
     io::write_all(1, &bytes[FIRST..end]);
 }
 
+// The lesser number: of the places of a table, no more can be lent than there are.
+pub fn least(x: usize, y: usize) -> usize
+    ensures { λ r. ⌜ r ≤ y ⌝ }
+{
+    if x < y { x } else { y }
+}
+
 fn print_word(name: &[u8], place: usize, word: u64) {
     io::write_all(1, b", ");
     io::write_all(1, name);

@@ -1,17 +1,36 @@
-// The term table through its public calls: every refusal of add_term, find_term and add_message, a table filled to the
-// last place, and the messages of document 01's case F. One line for each call: the answer, and how the places changed.
-mod messages_added;
-mod refusals;
+// The term table through its public calls, on stored tables: a line for each call, with its answer and every place that has
+// changed. The realm has three principals. The places of a new table hold what is no term, and each node of a new draft is
+// principal 0. The table has a place more than it should, so that one that is too long can be lent.
+//
+// The lines of the input, by their letters:
+//   L  a text: what the next call is
+//   N  a new table, and a new draft
+//   C  how many terms there are, and how many places are lent
+//   T  a place; kind, L and R of what it holds
+//   D  a node of the draft; its kind, x and y: the kinds of terms, with x for L and y for R, but an encryption is 6 under the
+//      long-term key of y and 7 under session key y, and 8 is the term of number x
+//   F  kind, L, R: finds a term
+//   A  kind, L, R: adds a term
+//   M  a node of the draft: adds its message
+mod calls;
 mod show;
-mod terms_added;
+
+use calls::new;
+use calls::obey;
+
+// Lines at most.
+const LINES: usize = 65536;
 
 fn main() {
-    terms_added::rules();
-    terms_added::last_places();
-    refusals::tables();
-    messages_added::case_f();
-    messages_added::shared();
-    messages_added::limits();
-    messages_added::out_of_range();
-    messages_added::out_of_order();
+    let mut t = new();
+    let mut i: usize = 0;
+    while i < LINES {
+        let line = cases::next();
+        if line.letter == 0 {
+            break;
+        }
+        let after = obey(t, line);
+        t = after;
+        i += 1;
+    }
 }

@@ -10,6 +10,8 @@ pub mod calls;
 pub mod derive;
 pub mod derive_cases;
 pub mod line;
+pub mod term_cases;
+pub mod terms;
 
 use line::Line;
 
@@ -66,5 +68,9 @@ pub struct Stored {
 
 /// The files of every program.
 pub fn all() -> Vec<Stored> {
-    vec![call_cases::script().stored("call_cases"), derive_cases::script().stored("derive_cases")]
+    vec![
+        call_cases::script().stored("call_cases"),
+        term_cases::script().stored("term_tables"),
+        derive_cases::script().stored("derive_cases"),
+    ]
 }

@@ -4,7 +4,7 @@
 use std::fs;
 use std::path::PathBuf;
 
-use cases::{calls::World, derive::Questions, output};
+use cases::{calls::World, derive::Questions, output, terms::Table};
 
 fn stored(name: &str, file: &str) -> String {
     let crates = PathBuf::from(env!("CARGO_MANIFEST_DIR")).join("../../crates");
@@ -23,6 +23,8 @@ fn the_files_are_as_made() {
 fn the_stored_input_gives_the_stored_output() {
     let calls = output(World::default(), &stored("call_cases", "stdin"));
     assert_eq!(calls, stored("call_cases", "stdout"));
+    let terms = output(Table::default(), &stored("term_tables", "stdin"));
+    assert_eq!(terms, stored("term_tables", "stdout"));
     let questions = output(Questions::default(), &stored("derive_cases", "stdin"));
     assert_eq!(questions, stored("derive_cases", "stdout"));
 }
@@ -37,19 +39,24 @@ fn every_line_has_68_bytes_and_no_blank_at_its_end() {
 }
 
 #[test]
-fn the_calls_meet_every_refusal() {
-    let output = stored("call_cases", "stdout");
-    for number in [2, 4, 5, 6, 10, 11, 12, 13, 14, 15, 16, 17, 18, 19, 20] {
-        let refused = format!(": refused {number}\n");
-        assert!(output.contains(&refused), "{number}");
+fn every_refusal_is_met() {
+    let calls = [2, 4, 5, 6, 10, 11, 12, 13, 14, 15, 16, 17, 18, 19, 20];
+    let terms = [4, 5, 6, 10, 20];
+    for (name, numbers) in [("call_cases", &calls[..]), ("term_tables", &terms[..])] {
+        let output = stored(name, "stdout");
+        for number in numbers {
+            assert!(output.contains(&format!(": refused {number}\n")), "{name}: {number}");
+        }
     }
 }
 
 #[test]
 fn a_refused_call_changes_nothing() {
-    for line in stored("call_cases", "stdout").lines() {
-        if let Some((_, refused)) = line.split_once(": refused ") {
-            assert!(refused.parse::<u8>().is_ok(), "{line}");
+    for name in ["call_cases", "term_tables"] {
+        for line in stored(name, "stdout").lines() {
+            if let Some((_, refused)) = line.split_once(": refused ") {
+                assert!(refused.parse::<u8>().is_ok(), "{name}: {line}");
+            }
         }
     }
 }
