@@ -3,6 +3,7 @@
 -- kind 1." Values that a step compares with its run's own are answered as they are, and so are the a and b of a request,
 -- which step 3 itself finds "unequal and not 0".
 -- Assumes nothing.
+pub mod Laws
 use mathlib.Core.Option.{Option, none, some}
 use Prim.Native.Nat.{ℕ}
 use Rattle.terms.specs.Message.{Message}

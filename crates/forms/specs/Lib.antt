@@ -1,4 +1,5 @@
--- The messages that steps 3, 4 and 6 take. Promises is to be read first.
+-- The messages that steps 3 to 6 take: `Forms` those of 3, 4 and 6, `Delivery` that of 5, a ticket and an authenticator.
+-- Promises is to be read first.
 pub mod Promises
 pub mod Forms
-pub mod Laws
+pub mod Delivery

@@ -5,13 +5,18 @@
 use mathlib.Core.Logic.{_↔_}
 use mathlib.Core.Path.{_≡_}
 use Prim.Native.Nat.{ℕ}
-use Rattle.kerberos.specs.Messages.{parallel, request, reply, confirmation}
-use Rattle.terms.specs.Message.{Message}
+use Rattle.kerberos.specs.Messages.{parallel, request, reply, ticket, authenticator, confirmation}
+use Rattle.terms.specs.Message.{Message, pair}
+use Rattle.forms.specs.declared.Authenticator.the-variants as authenticators
 use Rattle.forms.specs.declared.Confirmation.the-variants as confirmations
+use Rattle.forms.specs.declared.Delivery.the-variants as deliveries
 use Rattle.forms.specs.declared.Reply.the-variants as replies
 use Rattle.forms.specs.declared.Request.the-variants as requests
+use Rattle.forms.specs.declared.Ticket.the-variants as tickets
+use Rattle.forms.specs.Delivery.{ticketIn, authenticatorIn, deliveryIn}
+use Rattle.forms.specs.Delivery.Laws.{ticket-form, authenticator-form, delivery-form}
 use Rattle.forms.specs.Forms.{requestIn, replyIn, confirmationIn}
-use Rattle.forms.specs.Laws.{request-form, reply-form, confirmation-form}
+use Rattle.forms.specs.Forms.Laws.{request-form, reply-form, confirmation-form}
 
 module _ (m : Message) where
   pub is-request : (a b n : ℕ) → (requestIn m ≡ requests.Is a b n) ↔ (m ≡ request a b n)
@@ -22,3 +27,12 @@ module _ (m : Message) where
 
   pub is-confirmation : (ta k : ℕ) → (confirmationIn m ≡ confirmations.Is ta k) ↔ (m ≡ confirmation ta k)
   is-confirmation = confirmation-form m
+
+  pub is-ticket : (k a ts b : ℕ) → (ticketIn m ≡ tickets.Is k a ts b) ↔ (m ≡ ticket k a ts b)
+  is-ticket = ticket-form m
+
+  pub is-authenticator : (a ta k : ℕ) → (authenticatorIn m ≡ authenticators.Is a ta k) ↔ (m ≡ authenticator a ta k)
+  is-authenticator = authenticator-form m
+
+  pub is-delivery : (k a ts b ta : ℕ) → (deliveryIn m ≡ deliveries.Is k a ts b ta) ↔ (m ≡ pair (ticket k a ts b) (authenticator a ta k))
+  is-delivery = delivery-form m

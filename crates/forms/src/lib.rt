@@ -1,4 +1,4 @@
-// The messages that steps 3, 4 and 6 take, taken apart from the outside in. The first layer that does not fit ends it with
+// The messages that steps 3 to 6 take, taken apart from the outside in. The first layer that does not fit ends it with
 // `Other`, which the step that asked turns into refusal 14. Tests of a value against the run's own are the steps'.
 use layers::Opened;
 use layers::OpenedTime;
@@ -12,6 +12,7 @@ use words::Term;
 ghost use mathlib.Core.Path.{_≡_};
 ghost use Rattle.terms.specs.Meaning.{messageAt};
 ghost use Rattle.layers.specs.Present.{Present};
+ghost use Rattle.forms.specs.Delivery.{ticketIn, authenticatorIn, deliveryIn};
 ghost use Rattle.forms.specs.Forms.{requestIn, replyIn, confirmationIn};
 
 pub enum Request {
@@ -68,6 +69,92 @@ pub fn open_reply(terms: &[u64], m: u16) -> Reply
         return Reply::Other;
     };
     Reply::Is { k, b, ts, n, a }
+}
+
+pub enum Ticket {
+    Is { k: u16, a: u16, ts: u32, b: u16 },
+    Other,
+}
+
+// {K, a, Ts} under b's key.
+pub fn open_ticket(terms: &[u64], m: u16) -> Ticket
+    requires { ⌜ Present (now terms) m ⌝ }
+    ensures { λ r. ⌜ r ≡ ticketIn (messageAt (now (terms .entry)) m) ⌝ }
+{
+    let Opened::Value(b, body) = under_long_term_key(terms, m) else {
+        return Ticket::Other;
+    };
+    let Opened::Value(k, after_k) = session_key_first(terms, body) else {
+        return Ticket::Other;
+    };
+    let Opened::Value(a, after_a) = principal_first(terms, after_k) else {
+        return Ticket::Other;
+    };
+    let Term::Time(ts) = term_at(terms, after_a) else {
+        return Ticket::Other;
+    };
+    Ticket::Is { k, a, ts, b }
+}
+
+pub enum Authenticator {
+    Is { a: u16, ta: u32, k: u16 },
+    Other,
+}
+
+// {a, Ta}K.
+pub fn open_authenticator(terms: &[u64], m: u16) -> Authenticator
+    requires { ⌜ Present (now terms) m ⌝ }
+    ensures { λ r. ⌜ r ≡ authenticatorIn (messageAt (now (terms .entry)) m) ⌝ }
+{
+    let Opened::Value(k, body) = under_session_key(terms, m) else {
+        return Authenticator::Other;
+    };
+    let Opened::Value(a, after_a) = principal_first(terms, body) else {
+        return Authenticator::Other;
+    };
+    let Term::Time(ta) = term_at(terms, after_a) else {
+        return Authenticator::Other;
+    };
+    Authenticator::Is { a, ta, k }
+}
+
+pub enum Delivery {
+    Is {
+        k: u16,
+        a: u16,
+        ts: u32,
+        b: u16,
+        ta: u32,
+    },
+    Other,
+}
+
+// The pair of {K, a, Ts} under b's key and {a, Ta}K, with the same K and a in both.
+pub fn open_delivery(terms: &[u64], m: u16) -> Delivery
+    requires { ⌜ Present (now terms) m ⌝ }
+    ensures { λ r. ⌜ r ≡ deliveryIn (messageAt (now (terms .entry)) m) ⌝ }
+{
+    let Term::Pair(l, r) = term_at(terms, m) else {
+        return Delivery::Other;
+    };
+    let Ticket::Is { k, a, ts, b } = open_ticket(terms, l) else {
+        return Delivery::Other;
+    };
+    let Authenticator::Is {
+        a: sender,
+        ta,
+        k: under,
+    } = open_authenticator(terms, r)
+    else {
+        return Delivery::Other;
+    };
+    if sender != a {
+        return Delivery::Other;
+    }
+    if under != k {
+        return Delivery::Other;
+    }
+    Delivery::Is { k, a, ts, b, ta }
 }
 
 pub enum Confirmation {

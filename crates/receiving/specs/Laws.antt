@@ -15,9 +15,9 @@ use Rattle.forms.specs.Promises.{is-request, is-reply}
 use Rattle.forms.specs.declared.Confirmation.the-variants as confirmations
 use Rattle.forms.specs.declared.Reply.the-variants as replies
 use Rattle.forms.specs.declared.Request.the-variants as requests
-use Rattle.delivery.specs.Delivery.{deliveryIn}
-use Rattle.delivery.specs.Promises.{is-delivery}
-use Rattle.delivery.specs.declared.Delivery.the-variants as deliveries
+use Rattle.forms.specs.Delivery.{deliveryIn}
+use Rattle.forms.specs.Promises.{is-delivery}
+use Rattle.forms.specs.declared.Delivery.the-variants as deliveries
 use Rattle.replay.specs.declared.entry.Entry.{Entry}
 use Rattle.realm.specs.declared.header.Realm.{Realm}
 use Rattle.decisions.specs.declared.Verdict.the-variants.{Takes, Refused}

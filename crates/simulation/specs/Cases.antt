@@ -32,7 +32,7 @@ use Rattle.exchange.specs.declared.call.Call.the-variants.{Term, Step}
 use Rattle.exchange.specs.Needs.{needTable}
 use Rattle.layers.specs.Layers.{ofKind, layer, _▸_}
 use Rattle.forms.specs.Forms.{requestIn, replyIn, confirmationIn}
-use Rattle.delivery.specs.Delivery.{ticketIn, authenticatorIn, deliveryIn}
+use Rattle.forms.specs.Delivery.{ticketIn, authenticatorIn, deliveryIn}
 use Rattle.terms.specs.AllOf.{each}
 use Rattle.runs.specs.Lent.{rowHolds, rowsHold}
 use Rattle.rows.specs.Runs.{runAt, setRun}

@@ -19,7 +19,7 @@ use Rattle.sending.specs.Send.{sendOf}
 use Rattle.exchange.specs.Needs.{needTable}
 use Rattle.layers.specs.Layers.{ofKind, layer, _▸_}
 use Rattle.forms.specs.Forms.{requestIn, replyIn, confirmationIn}
-use Rattle.delivery.specs.Delivery.{ticketIn, authenticatorIn, deliveryIn}
+use Rattle.forms.specs.Delivery.{ticketIn, authenticatorIn, deliveryIn}
 use Rattle.rows.specs.Runs.{runAt, setRun}
 use Rattle.replay.specs.Cache.{present, stays, kept, written}
 use Rattle.realm.specs.Input.{usesTable, inRange, inputRefusal}

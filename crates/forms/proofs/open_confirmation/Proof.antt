@@ -2,7 +2,7 @@
 use mathlib.Core.Path.{refl, sym, _∙_}
 use borrow.Author.Needs.{needs}
 use native.Mathlib.Omega.{arith}
-use Rattle.forms.specs.Laws.{confirmation-read}
+use Rattle.forms.specs.Forms.Laws.{confirmation-read}
 use Rattle.layers.specs.Layers.{TIME}
 use Rattle.layers.specs.Laws.Layers.{stops, rest-stops, goes}
 use Rattle.layers.specs.Laws.Present.{atom-here, opens}

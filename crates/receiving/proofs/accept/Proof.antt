@@ -5,8 +5,8 @@ use native.Mathlib.Omega.{arith}
 use lib.Dec.{eqb}
 use borrow.Author.Tests.{not-true, not-false}
 use Rattle.terms.specs.Meaning.{messageAt}
-use Rattle.delivery.specs.Delivery.{deliveryIn}
-use Rattle.delivery.specs.declared.Delivery.the-variants as deliveries
+use Rattle.forms.specs.Delivery.{deliveryIn}
+use Rattle.forms.specs.declared.Delivery.the-variants as deliveries
 use Rattle.conditions.specs.Conditions.{derivableAt}
 use Rattle.receiving.specs.Laws.{no-delivery, delivery-to-another, delivery-underivable, delivery-barred, delivery-taken, delivery-key-most}
 use borrow.Author.Needs.{needs}

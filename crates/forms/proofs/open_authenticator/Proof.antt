@@ -1,14 +1,14 @@
--- `delivery::open_authenticator` meets its contract: one way out for each layer of the chain, and one through. Assumes nothing.
+-- `forms::open_authenticator` meets its contract: one way out for each layer of the chain, and one through. Assumes nothing.
 use mathlib.Core.Path.{refl, sym, _∙_}
 use borrow.Author.Needs.{needs}
 use native.Mathlib.Omega.{arith}
-use Rattle.delivery.specs.Laws.{authenticator-read}
+use Rattle.forms.specs.Delivery.Laws.{authenticator-read}
 use Rattle.layers.specs.Layers.{TIME}
 use Rattle.layers.specs.Laws.Layers.{stops, rest-stops, goes}
 use Rattle.layers.specs.Laws.Present.{atom-here, opens}
 use Rattle.layers.specs.Laws.Ways.{not-atom}
-use Rattle.delivery.proofs.open_authenticator.Statement.{statement}
-use Rattle.delivery.proofs.open_authenticator.Tie as tie
+use Rattle.forms.proofs.open_authenticator.Statement.{statement}
+use Rattle.forms.proofs.open_authenticator.Tie as tie
 
 under-session-key-requires : tie.Need-under-session-key-requires
 under-session-key-requires c κs = search needs

@@ -2,6 +2,7 @@
 -- order in which the code takes it apart, and the answer. "Lists in braces are nested pairs as in brackets. K is always of
 -- kind 4, Ts and Ta of kind 1." Values that the step compares with its run's own are answered as they are.
 -- Assumes nothing.
+pub mod Laws
 use mathlib.Core.Option.{Option, none, some}
 use Prim.Native.Nat.{ℕ}
 use lib.Dec.{eqb}
@@ -9,12 +10,12 @@ use Rattle.traces.specs.Terms.{given}
 use Rattle.terms.specs.Choice.{pick, both}
 use Rattle.terms.specs.Message.{Message}
 use Rattle.layers.specs.Layers.{PRINCIPAL, TIME, LONG_TERM_KEY, SESSION_KEY, PAIR, ofKind, operands, atom, first, under, _▸_}
-use Rattle.delivery.specs.declared.Authenticator.{Authenticator}
-use Rattle.delivery.specs.declared.Authenticator.the-variants as authenticators
-use Rattle.delivery.specs.declared.Delivery.{Delivery}
-use Rattle.delivery.specs.declared.Delivery.the-variants as deliveries
-use Rattle.delivery.specs.declared.Ticket.{Ticket}
-use Rattle.delivery.specs.declared.Ticket.the-variants as tickets
+use Rattle.forms.specs.declared.Authenticator.{Authenticator}
+use Rattle.forms.specs.declared.Authenticator.the-variants as authenticators
+use Rattle.forms.specs.declared.Delivery.{Delivery}
+use Rattle.forms.specs.declared.Delivery.the-variants as deliveries
+use Rattle.forms.specs.declared.Ticket.{Ticket}
+use Rattle.forms.specs.declared.Ticket.the-variants as tickets
 
 -- step 5: "{K, a, Ts} under b's key"
 abbrev pub ticketForm : Message → Option (ℕ × (ℕ × (ℕ × ℕ)))

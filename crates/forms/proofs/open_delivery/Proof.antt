@@ -1,12 +1,12 @@
--- `delivery::open_delivery` meets its contract: the halves of the pair by the contracts of their own calls, then the two
+-- `forms::open_delivery` meets its contract: the halves of the pair by the contracts of their own calls, then the two
 -- tests. Assumes nothing.
 use mathlib.Core.Path.{refl, sym, _∙_}
 use borrow.Author.Needs.{needs}
-use Rattle.delivery.specs.Laws.{delivery-no-pair, delivery-read, other-principal, other-key, one-key}
+use Rattle.forms.specs.Delivery.Laws.{delivery-no-pair, delivery-read, other-principal, other-key, one-key}
 use Rattle.layers.specs.Laws.Present.{pair-operands, pair-here}
 use Rattle.layers.specs.Laws.Ways.{not-pair}
-use Rattle.delivery.proofs.open_delivery.Statement.{statement}
-use Rattle.delivery.proofs.open_delivery.Tie as tie
+use Rattle.forms.proofs.open_delivery.Statement.{statement}
+use Rattle.forms.proofs.open_delivery.Tie as tie
 
 term-at-requires : tie.Need-term-at-requires
 term-at-requires c κs = search needs

@@ -14,13 +14,13 @@ use Rattle.terms.specs.Choice.{pick, both}
 use Rattle.terms.specs.Message.{Message, pair}
 use Rattle.layers.specs.Layers.{TIME, PAIR, ofKind, operands}
 use Rattle.layers.specs.Laws.Layers.{given-back, of-kind, kind-is, pair-back, reads-atom, reads-▸, principal-first, key-first, under-key, under-session, exactly}
-use Rattle.delivery.specs.declared.Authenticator.{Authenticator}
-use Rattle.delivery.specs.declared.Authenticator.the-variants as authenticators
-use Rattle.delivery.specs.declared.Delivery.{Delivery}
-use Rattle.delivery.specs.declared.Delivery.the-variants as deliveries
-use Rattle.delivery.specs.declared.Ticket.{Ticket}
-use Rattle.delivery.specs.declared.Ticket.the-variants as tickets
-use Rattle.delivery.specs.Delivery.{ticketForm, ticketOf, ticketIn, authenticatorForm, authenticatorOf, authenticatorIn, deliveryOf, deliveryIn}
+use Rattle.forms.specs.declared.Authenticator.{Authenticator}
+use Rattle.forms.specs.declared.Authenticator.the-variants as authenticators
+use Rattle.forms.specs.declared.Delivery.{Delivery}
+use Rattle.forms.specs.declared.Delivery.the-variants as deliveries
+use Rattle.forms.specs.declared.Ticket.{Ticket}
+use Rattle.forms.specs.declared.Ticket.the-variants as tickets
+use Rattle.forms.specs.Delivery.{ticketForm, ticketOf, ticketIn, authenticatorForm, authenticatorOf, authenticatorIn, deliveryOf, deliveryIn}
 
 -- step 5: "{K, a, Ts} under b's key"
 ticket-inv : (k a ts b : ℕ) (o : Option (ℕ × (ℕ × (ℕ × ℕ)))) → ticketOf o ≡ tickets.Is k a ts b → o ≡ some (b, (k, (a, ts)))
