@@ -3,22 +3,17 @@
 -- Assumes nothing.
 use Prim.Native.Nat.{ℕ, _<_}
 use mathlib.Core.List.{List, [], _∷_, _++_}
-use lib.ListN.{length}
-use Rattle.replay.specs.Cache.{kept, entries, written}
+use Rattle.replay.specs.Cache.{kept, entries, becomes}
 use Rattle.replay.specs.declared.cache.Swept.{Swept}
 use Rattle.replay.specs.declared.entry.Entry.{Entry}
 use Rattle.realm.specs.declared.header.Realm.{Realm}
 use Rattle.decisions.specs.declared.Keeping.{Keeping}
 use Rattle.decisions.specs.declared.Keeping.the-variants.{Same, Remember, Forget}
 
--- the places and their count, where the entries become `xs`
-abbrev held : Realm → List Entry → List Entry → Swept
-held h c xs = record { places = written c (h .entries) xs; count = length xs }
-
 abbrev pub cacheOf : Realm → List Entry → Keeping → Swept
 cacheOf h c Same = record { places = c; count = h .entries }
-cacheOf h c (Remember e) = held h c (entries c (h .entries) ++ (e ∷ []))
-cacheOf h c (Forget b) = held h c (kept (record { b = b; clock = h .clock; la = h .la }) (entries c (h .entries)))
+cacheOf h c (Remember e) = becomes c (h .entries) (entries c (h .entries) ++ (e ∷ []))
+cacheOf h c (Forget b) = becomes c (h .entries) (kept (record { b = b; clock = h .clock; la = h .la }) (entries c (h .entries)))
 
 -- a place is left for an entry that is remembered
 abbrev pub EntryRoom : ℕ → Keeping → Type 0

@@ -1,13 +1,23 @@
--- Writing an effect. The contract of `apply` gives the answer and every table afterwards, by the definitions in Apply, over Row and
--- Cache. What can be refused is decided before.
+-- What a call comes to. The contract of `apply` gives the answer and every table after an effect was written, by the definitions in
+-- Apply, over Row and Cache; what can be refused is decided before. `Call` has a whole call: the engine's contracts are equations
+-- with it.
 -- Assumes nothing.
+use Prim.Native.Nat.{ℕ}
 use mathlib.Core.Path.{_≡_, refl}
+use Rattle.exchange.specs.declared.call.Answer.the-variants.{Refused}
+use Rattle.exchange.specs.declared.call.Call.{Call}
 use Rattle.decisions.specs.declared.Effect.{Effect}
 use Rattle.realm.specs.Opening.{header}
 use Rattle.realm.specs.Tables.{Tables}
 use Rattle.effects.specs.Apply.{applied}
+use Rattle.effects.specs.Call.{called}
+use Rattle.effects.specs.Kept as kept
 
 -- no effect changes the header
 pub header-stays : (t : Tables) (x : Effect) → header (applied t x .tables .realm) ≡ header (t .realm)
 unfolding applied
 header-stays t x = refl
+
+-- a call that is refused leaves the realm and every place of every table as they were
+pub refused-kept : (t : Tables) (c : Call) {k : ℕ} → called t c .answer ≡ Refused k → called t c .tables ≡ t
+refused-kept t c e = kept.refused-kept t c e

@@ -2,6 +2,7 @@
 use decisions::Keeping;
 use realm::header::Realm;
 use replay::cache::Swept;
+use replay::cache::append;
 use replay::cache::sweep;
 use replay::entry::Entry;
 use replay::entry::Purge;
@@ -20,14 +21,7 @@ pub fn cache_after(h: Realm, cache: [Entry; 16], keeping: Keeping) -> Swept
             places: cache,
             count,
         },
-        Keeping::Remember(entry) => {
-            let mut next = cache;
-            next[count] = entry;
-            Swept {
-                places: next,
-                count: count + 1,
-            }
-        }
+        Keeping::Remember(entry) => append(cache, count, entry),
         Keeping::Forget(b) => sweep(
             cache,
             count,

@@ -10,6 +10,7 @@ use mathlib.Core.Bool.{Bool, true, false, not, _&&_, _||_}
 use mathlib.Core.List.{List, [], _∷_, _++_}
 use lib.Dec.{eqb, leb}
 use lib.ListN.{length, take, drop, replicate}
+use Rattle.replay.specs.declared.cache.Swept.{Swept}
 use Rattle.replay.specs.declared.entry.Entry.{Entry}
 use Rattle.replay.specs.declared.entry.Purge.{Purge}
 use Rattle.replay.specs.declared.entry.Answer.{Answer}
@@ -61,6 +62,10 @@ padded count xs = xs ++ replicate (count - length xs) empty
 unfoldable pub written : List Entry → ℕ → List Entry → List Entry
 written list count xs = padded count xs ++ drop (length (padded count xs)) list
 
+-- the places and their count, where the entries become `xs`
+abbrev pub becomes : List Entry → ℕ → List Entry → Swept
+becomes list count xs = record { places = written list count xs; count = length xs }
+
 -- ---- the two calls
 
 -- What a call comes to: "a refusal is its number alone"; an accepted call has the count of entries after it. Either has the list after it.
@@ -77,9 +82,9 @@ outcome (Refused number) list = refused number list
 unfoldable pub fits : List Entry → ℕ → Bool
 fits list count = eqb (length list) 16 && leb count 16
 
--- the entries become `xs`
+-- a call after which the entries are `xs`
 abbrev pub holding : List Entry → ℕ → List Entry → Outcome
-holding list count xs = accepted (length xs) (written list count xs)
+holding list count xs = let s = becomes list count xs in accepted (s .count) (s .places)
 
 -- "remember then 18 or 19 as in step 5", which "remembers b, K, Ta"
 unfoldable pub remembered : List Entry → ℕ → Entry → Outcome

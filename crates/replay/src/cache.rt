@@ -1,8 +1,9 @@
 // The replay cache by value: its sixteen places and the count, side by side. `remember` and `forget` are the whole calls;
-// `find` and `sweep` are their parts, for a caller that has looked at the refusals itself.
+// `find`, `append` and `sweep` are their parts, for a caller that has looked at the refusals itself.
 ghost use mathlib.Core.Path.{_≡_};
-ghost use Prim.Native.Nat.{_≤_};
-ghost use Rattle.replay.specs.Cache.{same, present, stays, kept, entries, holding, refused, accepted, outcome, remembered, forgotten};
+ghost use mathlib.Core.List.{[], _∷_, _++_};
+ghost use Prim.Native.Nat.{_<_, _≤_};
+ghost use Rattle.replay.specs.Cache.{same, present, stays, kept, entries, becomes, refused, outcome, remembered, forgotten};
 use crate::entry::Answer;
 use crate::entry::EMPTY;
 use crate::entry::Entry;
@@ -18,7 +19,7 @@ pub struct After {
     pub answer: Answer,
 }
 
-// The places once a principal's dead entries are forgotten, and how many entries are left.
+// The places and how many entries there are, after one was put behind the others, or some were forgotten.
 pub struct Swept {
     pub places: [Entry; PLACES],
     pub count: usize,
@@ -59,10 +60,23 @@ fn survives(x: Entry, p: Purge) -> bool
     x.b != p.b || (p.clock as u64) < (x.ta as u64) + (p.la as u64)
 }
 
+// `e` behind the entries.
+pub fn append(places: [Entry; PLACES], count: usize, e: Entry) -> Swept
+    requires { ⌜ count < 16 ⌝ }
+    ensures { λ r. ⌜ r ≡ becomes places count (entries places count ++ (e ∷ [])) ⌝ }
+{
+    let mut next = places;
+    next[count] = e;
+    Swept {
+        places: next,
+        count: count + 1,
+    }
+}
+
 // One pass: a place that is read becomes empty, and an entry that survives moves to the front.
 pub fn sweep(places: [Entry; PLACES], count: usize, p: Purge) -> Swept
     requires { ⌜ count ≤ 16 ⌝ }
-    ensures { λ r. ⌜ accepted (r .count) (r .places) ≡ holding places count (kept p (entries places count)) ⌝ }
+    ensures { λ r. ⌜ r ≡ becomes places count (kept p (entries places count)) ⌝ }
 {
     let mut next = places;
     let mut left = 0;
@@ -104,11 +118,11 @@ pub fn remember(places: [Entry; PLACES], count: usize, e: Entry) -> After
     if count == PLACES {
         return refuse(places, REFUSE_CACHE_FULL);
     }
-    let mut next = places;
-    next[count] = e;
+    let appended = append(places, count, e);
+    let next = appended.places;
     After {
         places: next,
-        answer: Answer::Count(count + 1),
+        answer: Answer::Count(appended.count),
     }
 }
 

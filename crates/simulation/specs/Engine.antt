@@ -33,15 +33,14 @@ use Rattle.realm.specs.Fields.{callOf}
 use Rattle.realm.specs.Opening.{header}
 use Rattle.realm.specs.Tables.{Tables, Together}
 use Rattle.decisions.specs.declared.Effect.{Effect}
-use Rattle.decisions.specs.declared.Names.{Names}
-use Rattle.decisions.specs.declared.Names.the-variants as names
 use Rattle.decisions.specs.declared.Verdict.{Verdict}
 use Rattle.decisions.specs.declared.Verdict.the-variants as verdicts
 use Rattle.decisions.specs.Decision.{decision}
 use Rattle.decisions.specs.Laws.Verdict.{decision-takes}
-use Rattle.effects.specs.Apply.{answerOf, applied}
+use Rattle.effects.specs.Apply.{applied}
 use Rattle.simulation.specs.Taken.{refused-agrees, step-act, step-taken, step-agrees, adding-taken, adding-agrees}
 use Rattle.simulation.specs.Values.{logged, valuesOf}
+use Rattle.effects.specs.Kept.{ok}
 use Rattle.effects.specs.Call.{adding, withTerm, byVerdict, stepped, called}
 use Rattle.simulation.specs.Kept.{step-sends, call-kept}
 
@@ -73,10 +72,6 @@ kept : {R : Realm} {t : Tables} {ρ : Reading Event} (c : Call) → Follows R t 
 kept {ρ = ρ} c f = record { header-is = f .header-is; agrees = refused-agrees ρ c (f .agrees) }
 
 -- ---- a step
-
-ok : (who : Names) → accepts (answerOf who) ≡ true
-ok (names.Run r) = refl
-ok names.Nobody = refl
 
 -- what a reading becomes by this act
 abbrev acted : Reading Event → Act → Reading Event

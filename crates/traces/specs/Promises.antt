@@ -1,7 +1,7 @@
 -- What the crate promises of every rule set. The definitions that it is stated in, in reading order: Lists, Realm, Terms and Places;
 -- Logs (what was done and sent), Conditions, RuleSets (a rule set, and how a list of calls is read by it) and Engines (what an
--- engine must show); Origins (what must be shown of a rule set for secrecy: `Sound`) and Rows (of its table
--- of runs: `Telling`), with Secrets. Laws is proofs; Sample is a realm for examples.
+-- engine must show); Origins (what must be shown of a rule set for secrecy: `Sound`) and Rows (of its table of runs: `Telling`), with
+-- Secrets. Laws is proofs; Sample is a realm for examples.
 -- Assumes nothing.
 use Prim.Native.Nat.{ℕ}
 use mathlib.Core.Path.{_≡_, refl}

@@ -23,6 +23,3 @@ module _ (count : ℕ) {x : Change} where
 
     pub row-set : (runs : List ℕ) {runs′ : List ℕ} → runs′ ≡ setRun runs r row → (runs′ ≡ changed count x runs) × (count ≡ runCount count x)
     row-set runs h = rw e (h, refl)
-
-  pub no-row : x ≡ Nothing → (runs : List ℕ) → (runs ≡ changed count x runs) × (count ≡ runCount count x)
-  no-row e runs = rw e (refl, refl)

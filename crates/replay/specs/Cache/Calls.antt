@@ -53,12 +53,6 @@ module _ (list : List Entry) (count : ℕ) where
     unfolding remembered
     remembered-ok f p n = rw (f, p, ne-eqb count 16 n)
 
-    -- the same by a store at the count
-    pub remembered-stored : length list ≡ 16 → count ≤ 16 → present (entries list count) e ≡ false → (count ≡ 16 → ⊥) → remembered list count e ≡ accepted (count + 1) (set list count e)
-    remembered-stored l c p n =
-        let m : count < length list = omega arith in
-        remembered-ok (fits-is l c) p n ∙ (λ j. accepted (append-length list count e (omega arith) j) (sym (written-append list count e m) j))
-
   module _ (p : Purge) where
     pub forgotten-10 : fits list count ≡ false → forgotten list count p ≡ refused 10 list
     unfolding forgotten

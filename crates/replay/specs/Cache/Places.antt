@@ -8,7 +8,7 @@ use mathlib.Core.List.{List, [], _∷_, _++_, append-assoc, append-nil}
 use lib.ListN.{length, getD, take, drop, set, replicate, length-append, length-drop, length-replicate, getD-replicate, List·getD-append}
 use lib.Seq.{length-take-le, set-split, take-append-seam, drop-append-add, drop-drop, getD-append-add}
 use Rattle.replay.specs.declared.entry.Entry.{Entry}
-use Rattle.replay.specs.Cache.{empty, entries, padded, written, accepted, holding}
+use Rattle.replay.specs.Cache.{empty, entries, padded, written, becomes, accepted, holding}
 
 -- ---- written
 
@@ -59,6 +59,10 @@ written-append list count e l = set-split list count e l ∙ sym (append-assoc (
   where
     last : (xs : List Entry) → length xs ≡ suc count → written list count xs ≡ xs ++ drop (suc count) list
     last xs h = let z : count - length xs ≡ 0 = omega arith in rw (z, append-nil xs, h)
+
+pub appended : (list : List Entry) (count : ℕ) (e : Entry) → count < length list
+    → record { places = set list count e; count = count + 1 } ≡ becomes list count (entries list count ++ (e ∷ []))
+appended list count e l = λ j. record { places = written-append list count e l j; count = sym (append-length list count e (omega arith)) j }
 
 -- ---- holding: the same of a call that ends with the entries `xs`
 

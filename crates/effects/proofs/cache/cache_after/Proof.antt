@@ -1,13 +1,8 @@
 -- `effects::cache::cache_after` meets its contract, by the law for each way out. Assumes nothing.
-use mathlib.Core.Path.{_≡_}
-use lib.ListN.{length}
-use Rattle.effects.specs.Laws.Cache.{entry-room, entry-stored, swept-is}
+use Rattle.effects.specs.Laws.Cache.{entry-room}
 use borrow.Author.Needs.{needs}
 use Rattle.effects.proofs.cache.cache_after.Statement.{statement}
 use Rattle.effects.proofs.cache.cache_after.Tie as tie
-
-places : (c : tie.After-known-told) → length (c .before .before .before .args .cache) ≡ 16
-places c = search needs
 
 enum-told : tie.Need-enum-told
 enum-told c = search needs
@@ -15,14 +10,8 @@ enum-told c = search needs
 enum-known-keeping : tie.Need-enum-known-keeping
 enum-known-keeping c = search needs
 
-mul-next : tie.Need-mul-next
-mul-next c = search needs
-
-array-set-from-next : tie.Need-array-set-from-next
-array-set-from-next c = let s = c .before .before .before in entry-room (c .before .keeping .given .1) (s .args .h .entries) (s .pre .1)
-
-add-t9 : tie.Need-add-t9
-add-t9 c = search needs
+append-requires : tie.Need-append-requires
+append-requires c κs = let s = c .before .before .before in entry-room (c .before .keeping .given .1) (s .args .h .entries) (s .pre .1)
 
 enum-known-keeping-2 : tie.Need-enum-known-keeping-2
 enum-known-keeping-2 c = search needs
@@ -34,10 +23,10 @@ returns : tie.Need-returns
 returns c = rw (c .enum-told .given .1)
 
 returns-2 : tie.Need-returns-2
-returns-2 c = let s = c .before .before .before in entry-stored (c .before .keeping .given .1) (s .args .h) (s .args .cache) (places c) (s .pre .1)
+returns-2 c = rw (c .before .before .keeping .given .1) (c .append .ensures)
 
 returns-3 : tie.Need-returns-3
-returns-3 c = rw (c .before .before .keeping2 .given .1) (swept-is (c .sweep .result) (c .sweep .ensures))
+returns-3 c = rw (c .before .before .keeping2 .given .1) (c .sweep .ensures)
 
 pub cache-after-spec : {M : Type 1} → statement M
 cache-after-spec =
@@ -45,9 +34,7 @@ cache-after-spec =
     (tie.spec
     enum-told
     enum-known-keeping
-    mul-next
-    array-set-from-next
-    add-t9
+    append-requires
     enum-known-keeping-2
     sweep-requires
     returns

@@ -1,6 +1,8 @@
 -- `cache::remember` meets its contract: each way out is a law of `remembered`. Assumes nothing.
-use mathlib.Core.Path.{sym, _∙_}
-use Rattle.replay.specs.Cache.Calls.{fits-is, misfit-count, remembered-10, remembered-18, remembered-19, remembered-stored}
+use mathlib.Core.Path.{sym, ap, _∙_}
+use Rattle.replay.specs.declared.cache.Swept.{Swept}
+use Rattle.replay.specs.Cache.{accepted}
+use Rattle.replay.specs.Cache.Calls.{fits-is, misfit-count, remembered-10, remembered-18, remembered-19, remembered-ok}
 use borrow.Author.Needs.{needs}
 use Rattle.replay.proofs.cache.remember.Statement.{statement}
 use Rattle.replay.proofs.cache.remember.Tie as tie
@@ -32,19 +34,16 @@ returns-3 c =
     let f = fits-is (a .places) (a .count) (search needs) (c .before .before .before .before .if1 .left) in
     c .refuse3 .ensures ∙ sym (remembered-19 (a .places) (a .count) (a .e) f (sym (c .before .before .before .find .ensures) ∙ c .before .before .if2 .left) (c .before .if3 .taken))
 
-mul-next : tie.Need-mul-next
-mul-next c = search needs
-
-array-set-from-next : tie.Need-array-set-from-next
-array-set-from-next c = search needs
-
-add-t7 : tie.Need-add-t7
-add-t7 c = search needs
+append-requires : tie.Need-append-requires
+append-requires c κs = search needs
 
 returns-4 : tie.Need-returns-4
 returns-4 c =
-    let a = c .before .before .before .before .args in
-    sym (remembered-stored (a .places) (a .count) (a .e) (search needs) (c .before .before .before .if1 .left) (sym (c .before .before .find .ensures) ∙ c .before .if2 .left) (c .if3 .left))
+    let d = c .before .before in
+    let a = d .before .before .before .before .args in
+    let f = fits-is (a .places) (a .count) (search needs) (d .before .before .before .if1 .left) in
+    ap (λ (s : Swept). accepted (s .count) (s .places)) (c .before .append .ensures)
+    ∙ sym (remembered-ok (a .places) (a .count) (a .e) f (sym (d .before .before .find .ensures) ∙ d .before .if2 .left) (d .if3 .left))
 
 pub remember-spec : {M : Type 1} → statement M
 remember-spec =
@@ -57,7 +56,5 @@ remember-spec =
     returns-2
     refuse-requires-3
     returns-3
-    mul-next
-    array-set-from-next
-    add-t7
+    append-requires
     returns-4)

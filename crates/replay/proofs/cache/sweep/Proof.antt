@@ -6,7 +6,7 @@ use native.Mathlib.Omega.{arith}
 use mathlib.Core.Logic.{⊎-elim}
 use borrow.Author.Needs.{needs}
 use lib.ListN.{length, getD}
-use Rattle.replay.specs.Cache.{accepted, empty, stays, kept}
+use Rattle.replay.specs.Cache.{empty, stays, kept}
 use Rattle.replay.proofs.Sweep.{Sweeping, begun, gone, moved}
 use Rattle.replay.proofs.cache.sweep.Statement.{statement}
 use Rattle.replay.proofs.cache.sweep.Tie as tie
@@ -70,7 +70,7 @@ returns c =
     let a = s .before .args in
     let e : s .loop .i ≡ a .count = omega arith in
     let v = rw e at (s .loop .inv .1) in
-    λ j. accepted (v .count j) (v .list-is j)
+    λ j. record { places = v .list-is j; count = v .count j }
 
 pub sweep-spec : {M : Type 1} → statement M
 sweep-spec =

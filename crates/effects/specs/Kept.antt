@@ -1,0 +1,73 @@
+-- "A refusal is its number alone. State, wire, cache and terms stay unchanged", of every call.
+-- Assumes nothing.
+use Prim.Native.Nat.{ℕ, suc}
+use mathlib.Core.Path.{_≡_, refl, sym, ap, ap₂, _∙_}
+use mathlib.Core.Bool.{Bool, true, false}
+use mathlib.Core.List.{List}
+use lib.Dec.{eqb}
+use lib.ListN.{set}
+use Rattle.terms.specs.declared.table.Found.{Found}
+use Rattle.terms.specs.declared.table.Found.the-variants.{At, Nothing}
+use Rattle.terms.specs.Add.{addBy, addOf}
+use Rattle.terms.specs.Choice.{pick, no-true}
+use Rattle.terms.specs.Outcome as terms
+use Rattle.terms.specs.Rules.{refusalOf}
+use Rattle.terms.specs.Table.{findOf}
+use Rattle.words.specs.Word.{packed}
+use Rattle.exchange.specs.declared.call.Answer.{Answer}
+use Rattle.exchange.specs.declared.call.Answer.the-variants.{Refused}
+use Rattle.exchange.specs.declared.call.Call.{Call}
+use Rattle.exchange.specs.declared.call.Call.the-variants as calls
+use Rattle.exchange.specs.Calls.{accepts}
+use Rattle.realm.specs.Tables.{Tables, tables}
+use Rattle.decisions.specs.declared.Names.{Names}
+use Rattle.decisions.specs.declared.Names.the-variants as names
+use Rattle.decisions.specs.declared.Verdict.{Verdict}
+use Rattle.decisions.specs.declared.Verdict.the-variants as verdicts
+use Rattle.decisions.specs.Decision.{decision}
+use Rattle.effects.specs.Apply.{answerOf, applied}
+use Rattle.effects.specs.Call.{numbered, withTerms, byVerdict, stepped, called}
+
+-- what accepts is no refusal
+never : {A : Type 0} (a : Answer) {k : ℕ} → accepts a ≡ true → a ≡ Refused k → A
+never a t e = no-true (sym (ap accepts e) ∙ t)
+
+pub ok : (who : Names) → accepts (answerOf who) ≡ true
+ok (names.Run r) = refl
+ok names.Nobody = refl
+
+-- ---- TM
+
+module _ (ts : List ℕ) (count w : ℕ) {k : ℕ} where
+  by-room : (b : Bool) → let o = pick b (terms.refuse 20 count ts) (terms.accept count (suc count) (set ts count w)) in
+      numbered (o .answer) ≡ Refused k → (o .count ≡ count) × (o .table ≡ ts)
+  by-room true e = (refl, refl)
+  by-room false e = never _ refl e
+
+  by-found : (f : Found) → let o = addBy ts count w f in numbered (o .answer) ≡ Refused k → (o .count ≡ count) × (o .table ≡ ts)
+  by-found (At i) e = never _ refl e
+  by-found Nothing e = by-room (eqb count 512) e
+
+  by-rule : (b : Bool) (r : ℕ) → let o = pick b (addBy ts count w (findOf ts count w)) (terms.refuse r count ts) in
+      numbered (o .answer) ≡ Refused k → (o .count ≡ count) × (o .table ≡ ts)
+  by-rule true r e = by-found (findOf ts count w) e
+  by-rule false r e = (refl, refl)
+
+  add-kept : (n : ℕ) → let o = addOf n ts count w in numbered (o .answer) ≡ Refused k → (o .count ≡ count) × (o .table ≡ ts)
+  unfolding addOf
+  add-kept n e = by-rule (eqb (refusalOf n ts count w) 0) (refusalOf n ts count w) e
+
+-- ---- any call
+
+module _ (t : Tables) {k : ℕ} where
+  by-verdict : (v : Verdict) → byVerdict t v .answer ≡ Refused k → byVerdict t v .tables ≡ t
+  unfolding applied
+  by-verdict (verdicts.Takes x) q = never (answerOf (x .names)) (ok (x .names)) q
+  by-verdict (verdicts.Refused n) q = refl
+
+  pub refused-kept : (c : Call) → called t c .answer ≡ Refused k → called t c .tables ≡ t
+  unfolding called stepped
+  refused-kept (calls.Term kind l r) q =
+      let s = add-kept (t .terms) (t .realm .terms) (packed kind l r) (t .realm .n) q in
+      ap₂ (λ (count : ℕ) (ts : List ℕ). tables (withTerms (t .realm) count) ts (t .runs) (t .wire) (t .cache)) (s .0) (s .1)
+  refused-kept (calls.Step step run a b m time) q = by-verdict (decision t (record { step = step; run = run; a = a; b = b; m = m; t = time })) q
