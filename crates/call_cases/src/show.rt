@@ -1,4 +1,5 @@
 // Writing answers, and what has changed.
+use cases::print_number;
 use exchange::call::Answer;
 use realm::header::Realm;
 use replay::entry::Entry;
@@ -6,19 +7,16 @@ use replay::entry::Entry;
 pub fn print_answer(answer: Answer) {
     match answer {
         Answer::Number(i) => {
-            io::write_all(1, b": term ");
-            io::print_decimal(1, i as u64);
+            print_number(b": term ", i as u64);
         }
         Answer::OkRun(r) => {
-            io::write_all(1, b": ok ");
-            io::print_decimal(1, r as u64);
+            print_number(b": ok ", r as u64);
         }
         Answer::Ok => {
             io::write_all(1, b": ok");
         }
         Answer::Refused(n) => {
-            io::write_all(1, b": refused ");
-            io::print_decimal(1, n as u64);
+            print_number(b": refused ", n as u64);
         }
     }
 }
@@ -26,16 +24,20 @@ pub fn print_answer(answer: Answer) {
 // Writes a field of the realm if it has changed.
 fn print_field(name: &[u8], before: u64, after: u64) {
     if before != after {
-        io::write_all(1, name);
-        io::print_decimal(1, after);
+        print_number(name, after);
     }
 }
 
-pub fn print_realm(before: Realm, after: Realm) {
+// Writes what has changed of the realm's header.
+pub fn print_header(before: Realm, after: Realm) {
     print_field(b", n ", before.n as u64, after.n as u64);
     print_field(b", flags ", before.flags as u64, after.flags as u64);
     print_field(b", Ls ", before.ls as u64, after.ls as u64);
     print_field(b", La ", before.la as u64, after.la as u64);
+}
+
+// Writes what has changed of its clock and its counts.
+pub fn print_counts(before: Realm, after: Realm) {
     print_field(b", clock ", before.clock as u64, after.clock as u64);
     print_field(b", terms ", before.terms as u64, after.terms as u64);
     print_field(b", runs ", before.runs as u64, after.runs as u64);
@@ -44,12 +46,9 @@ pub fn print_realm(before: Realm, after: Realm) {
 
 // Word i of the table of runs: the run, and the place of the word in it.
 fn print_run(i: usize, value: u32) {
-    io::write_all(1, b", run ");
-    io::print_decimal(1, (i / 7) as u64);
-    io::write_all(1, b".");
-    io::print_decimal(1, (i % 7) as u64);
-    io::write_all(1, b" = ");
-    io::print_decimal(1, value as u64);
+    print_number(b", run ", (i / 7) as u64);
+    print_number(b".", (i % 7) as u64);
+    print_number(b" = ", value as u64);
 }
 
 // Writes each word of the table of runs that has changed.
@@ -67,14 +66,10 @@ fn print_entry(place: usize, before: Entry, after: Entry) {
     if (before.b == after.b) & (before.k == after.k) & (before.ta == after.ta) {
         return;
     }
-    io::write_all(1, b", entry ");
-    io::print_decimal(1, place as u64);
-    io::write_all(1, b" = ");
-    io::print_decimal(1, after.b as u64);
-    io::write_all(1, b" ");
-    io::print_decimal(1, after.k as u64);
-    io::write_all(1, b" ");
-    io::print_decimal(1, after.ta as u64);
+    print_number(b", entry ", place as u64);
+    print_number(b" = ", after.b as u64);
+    print_number(b" ", after.k as u64);
+    print_number(b" ", after.ta as u64);
 }
 
 // Writes each place of the cache that has changed.

@@ -1,7 +1,8 @@
 // A realm with tables of its own, by value, and what a line does with them.
 use super::show::print_answer;
 use super::show::print_cache;
-use super::show::print_realm;
+use super::show::print_counts;
+use super::show::print_header;
 use super::show::print_runs;
 use cases::Line;
 use cases::least;
@@ -82,41 +83,46 @@ fn set_counts(w: World, line: Line) -> World {
     next
 }
 
-fn set_term(w: World, place: usize, kind: u32, l: u32, r: u32) -> World {
+fn set_term(w: World, line: Line) -> World {
     let mut next = w;
+    let place = line.a as usize;
     if place < 513 {
-        next.terms[place] = (kind as u64) % 65536 * 4294967296
-            + (l as u64) % 65536 * 65536
-            + (r as u64) % 65536;
+        next.terms[place] = (line.b as u64) % 65536 * 4294967296
+            + (line.c as u64) % 65536 * 65536
+            + (line.d as u64) % 65536;
     }
     next
 }
 
-fn set_run(w: World, run: usize, word: usize, value: u32) -> World {
+fn set_run(w: World, line: Line) -> World {
     let mut next = w;
+    let run = line.a as usize;
+    let word = line.b as usize;
     if run < 64 {
         if word < ROW {
-            next.runs[run * ROW + word] = value;
+            next.runs[run * ROW + word] = line.c;
         }
     }
     next
 }
 
-fn set_wire(w: World, word: usize, upper: u32, lower: u32) -> World {
+fn set_wire(w: World, line: Line) -> World {
     let mut next = w;
+    let word = line.a as usize;
     if word < 9 {
-        next.wire[word] = (upper as u64) * 4294967296 + (lower as u64);
+        next.wire[word] = (line.b as u64) * 4294967296 + (line.c as u64);
     }
     next
 }
 
-fn set_entry(w: World, place: usize, b: u32, k: u32, ta: u32) -> World {
+fn set_entry(w: World, line: Line) -> World {
     let mut next = w;
+    let place = line.a as usize;
     if place < 16 {
         next.cache[place] = Entry {
-            b: (b % 65536) as u16,
-            k: (k % 65536) as u16,
-            ta,
+            b: (line.b % 65536) as u16,
+            k: (line.c % 65536) as u16,
+            ta: line.d,
         };
     }
     next
@@ -132,7 +138,8 @@ fn open(w: World, line: Line) -> World {
     ) {
         Opening::Open(h) => {
             print_answer(Answer::Ok);
-            print_realm(w.realm, h);
+            print_header(w.realm, h);
+            print_counts(w.realm, h);
             let mut next = w;
             next.realm = h;
             next
@@ -163,15 +170,16 @@ fn call_on(
 }
 
 fn print_wire(before: [u64; 9], after: [u64; 9]) {
-    print_changes(b"wire", &before, &after);
+    print_changes(b", wire ", &before, &after);
 }
 
 // Writes what has changed.
 fn print_world(before: World, after: World) {
-    print_realm(before.realm, after.realm);
+    print_header(before.realm, after.realm);
+    print_counts(before.realm, after.realm);
     let old_terms = before.terms;
     let terms = after.terms;
-    print_changes(b"term", &old_terms, &terms);
+    print_changes(b", term ", &old_terms, &terms);
     let old_wire = before.wire;
     let wire = after.wire;
     print_wire(old_wire, wire);
@@ -266,10 +274,10 @@ pub fn obey(w: World, line: Line) -> World {
         b'N' => new(),
         b'H' => set_header(w, line),
         b'C' => set_counts(w, line),
-        b'T' => set_term(w, line.a as usize, line.b, line.c, line.d),
-        b'R' => set_run(w, line.a as usize, line.b as usize, line.c),
-        b'W' => set_wire(w, line.a as usize, line.b, line.c),
-        b'E' => set_entry(w, line.a as usize, line.b, line.c, line.d),
+        b'T' => set_term(w, line),
+        b'R' => set_run(w, line),
+        b'W' => set_wire(w, line),
+        b'E' => set_entry(w, line),
         _ => called(w, line),
     }
 }

@@ -99,13 +99,10 @@ pub fn least(x: usize, y: usize) -> usize
     if x < y { x } else { y }
 }
 
-fn print_word(name: &[u8], place: usize, word: u64) {
-    io::write_all(1, b", ");
+// Writes a number behind its name.
+pub fn print_number(name: &[u8], n: u64) {
     io::write_all(1, name);
-    io::write_all(1, b" ");
-    io::print_decimal(1, place as u64);
-    io::write_all(1, b" = ");
-    io::print_hex(1, word, 1);
+    io::print_decimal(1, n);
 }
 
 // Writes place i of a table if it has changed.
@@ -117,7 +114,9 @@ fn print_change(name: &[u8], before: &[u64], after: &[u64], i: usize) {
         return;
     }
     if before[i] != after[i] {
-        print_word(name, i, after[i]);
+        print_number(name, i as u64);
+        io::write_all(1, b" = ");
+        io::print_hex(1, after[i], 1);
     }
 }
 

@@ -9,6 +9,7 @@
 //   W  a word of the wire; its upper and its lower half
 //   Q  a term's number: can the intruder derive it?
 use cases::Line;
+use cases::print_number;
 use cases::print_text;
 use deduction::Principals;
 use synthesis::lent::Answer;
@@ -33,8 +34,7 @@ fn report(answer: Answer) {
             io::write_all(1, b": not derivable\n");
         }
         Answer::Refused(number) => {
-            io::write_all(1, b": refused ");
-            io::print_decimal(1, number as u64);
+            print_number(b": refused ", number as u64);
             io::write_all(1, b"\n");
         }
     }

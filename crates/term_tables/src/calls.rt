@@ -116,7 +116,7 @@ fn find(t: Table, word: u64) -> Table {
 // The table after a call, with what has changed written.
 fn after(t: Table, terms: [u64; 513], count: usize) -> Table {
     let before = t.terms;
-    print_changes(b"term", &before, &terms);
+    print_changes(b", term ", &before, &terms);
     let nodes = t.nodes;
     Table {
         terms,

@@ -1,16 +1,15 @@
 // Writing answers.
+use cases::print_number;
 use messages::lent::Stored;
 use terms::lent::Lookup;
 use terms::table::Added;
 
 fn print_refusal(number: u8) {
-    io::write_all(1, b": refused ");
-    io::print_decimal(1, number as u64);
+    print_number(b": refused ", number as u64);
 }
 
 fn print_term(number: usize) {
-    io::write_all(1, b": term ");
-    io::print_decimal(1, number as u64);
+    print_number(b": term ", number as u64);
 }
 
 pub fn print_lookup(answer: Lookup) {
@@ -47,8 +46,7 @@ pub fn print_stored(answer: Stored) {
     match answer {
         Stored::At(number, count) => {
             print_term(number as usize);
-            io::write_all(1, b" of ");
-            io::print_decimal(1, count as u64);
+            print_number(b" of ", count as u64);
         }
         Stored::Refused(number) => {
             print_refusal(number);
