@@ -29,7 +29,7 @@ use Rattle.effects.specs.Apply.{answerOf, applied}
 use Rattle.effects.specs.Call.{numbered, withTerms, byVerdict, stepped, called}
 
 -- what accepts is no refusal
-never : {A : Type 0} (a : Answer) {k : ℕ} → accepts a ≡ true → a ≡ Refused k → A
+pub never : {A : Type 0} (a : Answer) {k : ℕ} → accepts a ≡ true → a ≡ Refused k → A
 never a t e = no-true (sym (ap accepts e) ∙ t)
 
 pub ok : (who : Names) → accepts (answerOf who) ≡ true

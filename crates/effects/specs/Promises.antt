@@ -12,6 +12,7 @@ use Rattle.realm.specs.Tables.{Tables}
 use Rattle.effects.specs.Apply.{applied}
 use Rattle.effects.specs.Call.{called}
 use Rattle.effects.specs.Kept as kept
+use Rattle.effects.specs.Numbers as numbers
 
 -- no effect changes the header
 pub header-stays : (t : Tables) (x : Effect) → header (applied t x .tables .realm) ≡ header (t .realm)
@@ -21,3 +22,7 @@ header-stays t x = refl
 -- a call that is refused leaves the realm and every place of every table as they were
 pub refused-kept : (t : Tables) (c : Call) {k : ℕ} → called t c .answer ≡ Refused k → called t c .tables ≡ t
 refused-kept t c e = kept.refused-kept t c e
+
+-- "10 is met only by a library caller": no call answers it, but for the check
+pub never-10 : (t : Tables) (c : Call) → ¬ (called t c .answer ≡ Refused 10)
+never-10 t c e = numbers.never-10 t c e

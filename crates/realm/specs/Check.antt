@@ -115,12 +115,12 @@ together-is t z w places e =
       entries-fit = es .1;
     }
 
-pub is-together : (t : Tables) → t .realm .flags < 2 ^ 16 → Together t → together t ≡ true
+pub is-together : (t : Tables) → Together t → together t ≡ true
 unfolding together
-is-together t hf f =
+is-together t f =
     let h = t .realm in
     rw (
-      header-fits (h .n) (h .flags) (h .ls) (h .la) hf (f .header-fits),
+      header-fits (h .n) (h .flags) (h .ls) (h .la) (f .header-fits),
       valid-holds (f .terms-hold),
       rows-decided (h .n) (t .runs) (h .runs) (t .terms) (h .terms) .1 (f .rows-hold),
       sym (eight-words (t .wire) (h .terms) (f .wire-words .len)),

@@ -11,6 +11,7 @@ use lib.Dec.{ltb, leb, eqb}
 use lib.Pow.{shr-shr, pow-pos}
 use Rattle.marks.specs.Bits.{bit, bit-zero, bit-suc, bit-past, bit-small}
 use Rattle.marks.specs.Marks.{isSet, is-set, set-is}
+use Rattle.terms.specs.AllOf.{and-true}
 use Rattle.terms.specs.Choice.{no-true, is-false}
 use Rattle.traces.specs.Realm as exchange
 use Rattle.traces.specs.Realm.{Header}
@@ -38,17 +39,17 @@ small-of w n e =
     let q = div-lt-iff-lt-mul {k = 2 ^ n} {x = w} {y = 1} (pow-pos n) .0 (omega arith) in
     omega arith
 
-none-zero : (w n : ℕ) → w < 2 ^ 16 → ((p : ℕ) → n ≤ p → bit w p ≡ 0) → w / 2 ^ n ≡ 0
-none-zero w n h none = no-bits 16 (w / 2 ^ n) (omega (arith, div-le-self w (2 ^ n))) (λ j. bit-above w n j ∙ none (n + j) (omega arith))
+lt-pow : (w : ℕ) → w < 2 ^ w
+lt-pow zero = omega arith
+lt-pow (suc w) = omega (arith, lt-pow w, pow-suc 2 w)
+
+none-zero : (w n : ℕ) → ((p : ℕ) → n ≤ p → bit w p ≡ 0) → w / 2 ^ n ≡ 0
+none-zero w n none = no-bits w (w / 2 ^ n) (omega (arith, div-le-self w (2 ^ n), lt-pow w)) (λ j. bit-above w n j ∙ none (n + j) (omega arith))
 
 zero-none : (w n : ℕ) → w / 2 ^ n ≡ 0 → (p : ℕ) → n ≤ p → bit w p ≡ 0
 zero-none w n e p h = bit-past n w p (small-of w n e) h
 
 -- ---- the six tests
-
-and-true : (a b : Bool) → (a && b) ≡ true → (a ≡ true) × (b ≡ true)
-and-true true b h = (refl, h)
-and-true false b h = no-true h
 
 not-set : (w : ℕ) → not (isSet w 0) ≡ true → bit w 0 ≡ 0
 not-set w e =
@@ -82,14 +83,14 @@ module _ (n flags ls la : ℕ) where
         authLife-fits = ha;
       }
 
-  pub header-fits : flags < 2 ^ 16 → Header (values n flags ls la) → headerFits n flags ls la ≡ true
+  pub header-fits : Header (values n flags ls la) → headerFits n flags ls la ≡ true
   unfolding headerFits
-  header-fits hf h =
+  header-fits h =
       rw (
         le-leb 3 n (h .least),
         le-leb n 16 (h .most),
         set-not flags (h .server-good),
-        eq-eqb (flags / 2 ^ n) 0 (none-zero flags n hf (h .none-above)),
+        eq-eqb (flags / 2 ^ n) 0 (none-zero flags n (h .none-above)),
         lt-ltb 0 ls (h .ticketLife-some),
         lt-ltb 0 la (h .authLife-some),
       )

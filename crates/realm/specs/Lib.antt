@@ -5,3 +5,4 @@ pub mod Fields
 pub mod Tables
 pub mod Header
 pub mod Check
+pub mod New

@@ -7,23 +7,30 @@ use mathlib.Core.Bool.{true}
 use mathlib.Core.Logic.{_↔_}
 use lib.ListN.{length}
 use Rattle.traces.specs.Realm.{Header}
+use Rattle.realm.specs.declared.header.Opening.the-variants.{Open}
 use Rattle.realm.specs.declared.header.Realm.{Realm}
 use Rattle.realm.specs.declared.input.Step.{Step}
 use Rattle.realm.specs.Check as checks
 use Rattle.realm.specs.Check.{Narrow, WordsFit, together}
 use Rattle.realm.specs.Header.{values, fits-header, header-fits}
 use Rattle.realm.specs.Input.{inputRefusal, Passed, passed, passed-back}
-use Rattle.realm.specs.Opening.{headerFits}
+use Rattle.realm.specs.New as new
+use Rattle.realm.specs.New.{Lends}
+use Rattle.realm.specs.Opening.{headerFits, openingOf}
 use Rattle.realm.specs.Tables.{Tables, Together}
 
 -- A header of the file's widths passes exactly where the exchange's `Header` holds of it.
-pub header-exact : (n flags ls la : ℕ) → flags < 2 ^ 16 → ls < 2 ^ 32 → la < 2 ^ 32 → (headerFits n flags ls la ≡ true) ↔ Header (values n flags ls la)
-header-exact n flags ls la hf hs ha = (fits-header n flags ls la hs ha, header-fits n flags ls la hf)
+pub header-exact : (n flags ls la : ℕ) → ls < 2 ^ 32 → la < 2 ^ 32 → (headerFits n flags ls la ≡ true) ↔ Header (values n flags ls la)
+header-exact n flags ls la hs ha = (fits-header n flags ls la hs ha, header-fits n flags ls la)
 
 -- A step's fields pass exactly where the step is one of ten, unused fields are 0, and used ones are in range.
 pub input-exact : (h : Realm) (s : Step) → (inputRefusal h s ≡ 0) ↔ Passed h s
 input-exact h s = (passed h s, passed-back h s)
 
 -- The check of tables says exactly that they hold together, where their words and fields have their widths.
-pub check-exact : (t : Tables) → t .realm .flags < 2 ^ 16 → Narrow (t .realm) → WordsFit (t .wire) → length (t .cache) ≡ 16 → (together t ≡ true) ↔ Together t
-check-exact t hf z w places = (checks.together-is t z w places, checks.is-together t hf)
+pub check-exact : (t : Tables) → Narrow (t .realm) → WordsFit (t .wire) → length (t .cache) ≡ 16 → (together t ≡ true) ↔ Together t
+check-exact t z w places = (checks.together-is t z w places, checks.is-together t)
+
+-- The tables that a caller lends for a realm that `open_realm` gave hold together, whatever stands in their places.
+pub new-together : (n flags ls la : ℕ) (h : Realm) (t : Tables) → ls < 2 ^ 32 → la < 2 ^ 32 → openingOf n flags ls la ≡ Open h → Lends h t → Together t
+new-together = new.new-together

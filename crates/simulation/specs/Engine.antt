@@ -2,8 +2,8 @@
 -- it accepts is one that the rules take. So demand 3 holds of it. A call is taken as `called` has it; the tables hold together
 -- from the start on, so the check of refusal 10 never shows.
 -- Assumes nothing.
-use Prim.Native.Nat.{ℕ}
-use mathlib.Core.Path.{_≡_, refl, sym, ap, subst}
+use Prim.Native.Nat.{ℕ, _^_, _<_}
+use mathlib.Core.Path.{_≡_, refl, sym, ap, subst, _∙_}
 use mathlib.Core.Bool.{true, false}
 use mathlib.Core.List.{List, [], _∷_, map}
 use native.Mathlib.Omega.{arith}
@@ -30,7 +30,10 @@ use Rattle.kerberos.specs.Rules.{Takes}
 use Rattle.kerberos.specs.Theorems.{rules-read}
 use Rattle.realm.specs.declared.input.Step.{Step}
 use Rattle.realm.specs.Fields.{callOf}
-use Rattle.realm.specs.Opening.{header}
+use Rattle.realm.specs.declared.header.Opening.the-variants.{Open}
+use Rattle.realm.specs.declared.header.Realm as realms
+use Rattle.realm.specs.New.{Lends, opened-is, new-together}
+use Rattle.realm.specs.Opening.{header, newRealm, openingOf}
 use Rattle.realm.specs.Tables.{Tables, Together}
 use Rattle.decisions.specs.declared.Effect.{Effect}
 use Rattle.decisions.specs.declared.Verdict.{Verdict}
@@ -134,6 +137,19 @@ call-takes t ρ (calls.Step step run x y m time) size f a =
     verdict-takes f s (decision t s) refl a
 
 -- ---- a new realm
+
+-- what a caller lends for a realm that `open_realm` gave is a new realm
+pub opened-new : (n flags ls la : ℕ) (h : realms.Realm) (t : Tables) → ls < 2 ^ 32 → la < 2 ^ 32 → openingOf n flags ls la ≡ Open h → Lends h t → New (header h) t
+opened-new n flags ls la h t hs ha o l =
+    let is : newRealm n flags ls la ≡ t .realm = opened-is n flags ls la h o .1 ∙ sym (l .realm-is) in
+    record {
+      header-is = ap header (l .realm-is);
+      together = new-together n flags ls la h t hs ha o l;
+      clock = ap (λ (x : realms.Realm). x .clock) (sym is);
+      terms = ap (λ (x : realms.Realm). x .terms) (sym is);
+      runs = ap (λ (x : realms.Realm). x .runs) (sym is);
+      entries = ap (λ (x : realms.Realm). x .entries) (sym is);
+    }
 
 -- nothing is on the wire of the empty log
 abbrev none : Log

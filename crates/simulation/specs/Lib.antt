@@ -12,4 +12,5 @@ pub mod Terms
 pub mod Taken
 pub mod Kept
 pub mod Engine
+pub mod Idle
 pub mod Cases

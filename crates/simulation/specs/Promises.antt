@@ -3,12 +3,14 @@
 -- paper's lettered cases). How it is shown: Rules (what a step that is taken has met is what the rules ask for), Mirrors (an effect
 -- beside an event), Follows (of writing an effect, over Runs, Entries and Wire), Terms (of adding a term), Taken and Kept (of a call).
 -- Assumes nothing.
-use Prim.Native.Nat.{_^_, _<_}
-use mathlib.Core.Path.{_≡_, sym, subst}
+use Prim.Native.Nat.{ℕ}
+use mathlib.Core.Path.{_≡_, subst}
 use mathlib.Core.Bool.{true}
 use mathlib.Core.List.{List, map}
 use lib.ListN.{length, replicate}
+use Rattle.terms.specs.Message.{session, key}
 use Rattle.exchange.specs.declared.call.Call.{Call}
+use Rattle.exchange.specs.declared.call.Call.the-variants.{Step}
 use Rattle.exchange.specs.Calls.{AllSized}
 use Rattle.traces.specs.Engines.{Agrees, after, history}
 use Rattle.traces.specs.Promises.{tables-agree}
@@ -23,6 +25,7 @@ use Rattle.realm.specs.Tables.{Tables, Together}
 use Rattle.effects.specs.Call.{called, checked}
 use Rattle.simulation.specs.Cases.{play, table, cases, cases-start}
 use Rattle.simulation.specs.Engine.{New, engineOf}
+use Rattle.simulation.specs.Idle as idle
 use Rattle.simulation.specs.Values.{valuesOf}
 
 -- Demand 3 holds of every list of calls, each with any fields, from a new realm under any header that refusal 2 lets pass.
@@ -36,9 +39,17 @@ pub tables-follow : (R : Realm) (t : Tables) (new : New R t) (cs : List Call) �
 tables-follow R t new cs size = tables-agree HD R (engineOf R t new) cs size
 
 -- "10 is met only by a library caller": on tables that hold together the checked call is the call.
-pub ten-unmet : (t : Tables) (c : Call) → t .realm .flags < 2 ^ 16 → Together t → checked t c ≡ called t c
+pub ten-unmet : (t : Tables) (c : Call) → Together t → checked t c ≡ called t c
 unfolding checked
-ten-unmet t c narrow w = rw (is-together t narrow w)
+ten-unmet t c w = rw (is-together t w)
+
+-- "10 | .. changes nothing", whether it is accepted or not,
+pub query-kept : (t : Tables) → Together t → (r a b m now : ℕ) → called t (Step 10 r a b m now) .tables ≡ t
+query-kept t w r a b m now = idle.query-kept t w r a b m now
+
+-- and a leak of a key that is on the wire changes nothing: "leaking it again changes nothing".
+pub leak-kept : (t : Tables) → Together t → (r a b m now : ℕ) → valuesOf t .wire (key (session r)) → called t (Step 9 r a b m now) .tables ≡ t
+leak-kept t w r a b m now k = idle.leak-kept t w r a b m now k
 
 -- F and the lettered cases come out as the paper says, from tables that hold together.
 pub lettered : (map play table ≡ map (λ c. c .says) table) × (map (λ c. together (c .start)) table ≡ replicate (length table) true)

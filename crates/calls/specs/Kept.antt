@@ -1,0 +1,52 @@
+-- What the public call leaves as it was, from what the call by value does.
+-- Assumes nothing.
+use Prim.Native.Nat.{ℕ}
+use mathlib.Core.Path.{_≡_, refl, sym, ap, _∙_}
+use mathlib.Core.Bool.{Bool, true, false}
+use lib.Dec.{eqb}
+use lib.ListN.{length}
+use Rattle.terms.specs.Choice.{pick}
+use Rattle.terms.specs.Message.{session, key}
+use Rattle.exchange.specs.declared.call.Answer.{Answer}
+use Rattle.exchange.specs.declared.call.Answer.the-variants.{Refused}
+use Rattle.exchange.specs.declared.call.Call.{Call}
+use Rattle.exchange.specs.declared.call.Call.the-variants.{Step}
+use Rattle.realm.specs.Check.{together}
+use Rattle.realm.specs.Tables.{Tables, Together}
+use Rattle.effects.specs.Apply.{Outcome, refuse}
+use Rattle.effects.specs.Call.{called, checked}
+use Rattle.effects.specs.Promises as effects
+use Rattle.simulation.specs.Promises as simulation
+use Rattle.simulation.specs.Values.{valuesOf}
+use Rattle.calls.specs.Lent.{lentCall}
+use Rattle.calls.specs.Same.{lent-called}
+
+module _ (t : Tables) (c : Call) {k : ℕ} where
+  by-check : (b : Bool) → pick b (called t c) (refuse t 10) .answer ≡ Refused k → pick b (called t c) (refuse t 10) .tables ≡ t
+  by-check true e = effects.refused-kept t c e
+  by-check false e = refl
+
+  by-length : (b : Bool) → pick b (checked t c) (refuse t 10) .answer ≡ Refused k → pick b (checked t c) (refuse t 10) .tables ≡ t
+  unfolding checked
+  by-length true e = by-check (together t) e
+  by-length false e = refl
+
+  pub refused-kept : lentCall t c .answer ≡ Refused k → lentCall t c .tables ≡ t
+  unfolding lentCall
+  refused-kept e = by-length (eqb (length (t .cache)) 16) e
+
+module _ (t : Tables) (c : Call) (w : Together t) where
+  same-answer : lentCall t c .answer ≡ called t c .answer
+  same-answer = ap (λ (o : Outcome). o .answer) (lent-called t c w)
+
+  same-tables : lentCall t c .tables ≡ called t c .tables
+  same-tables = ap (λ (o : Outcome). o .tables) (lent-called t c w)
+
+  pub never-10 : ¬ (lentCall t c .answer ≡ Refused 10)
+  never-10 e = effects.never-10 t c (sym same-answer ∙ e)
+
+pub query-kept : (t : Tables) → Together t → (r a b m now : ℕ) → lentCall t (Step 10 r a b m now) .tables ≡ t
+query-kept t w r a b m now = same-tables t (Step 10 r a b m now) w ∙ simulation.query-kept t w r a b m now
+
+pub leak-kept : (t : Tables) → Together t → (r a b m now : ℕ) → valuesOf t .wire (key (session r)) → lentCall t (Step 9 r a b m now) .tables ≡ t
+leak-kept t w r a b m now k = same-tables t (Step 9 r a b m now) w ∙ simulation.leak-kept t w r a b m now k

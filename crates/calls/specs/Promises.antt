@@ -1,0 +1,60 @@
+-- What is promised of the public call, `call`, and so of `pogandir_call`: its contract is an equation with `lentCall`, the answer and
+-- every table afterwards. Reading order: Lent (one call), Lists (a list of them, each on the tables that the one before it left).
+-- Assumes nothing.
+use Prim.Native.Nat.{ℕ, _^_, _<_}
+use mathlib.Core.Path.{_≡_}
+use mathlib.Core.List.{List}
+use Rattle.terms.specs.Message.{session, key}
+use Rattle.exchange.specs.declared.call.Answer.the-variants.{Refused}
+use Rattle.exchange.specs.declared.call.Call.{Call}
+use Rattle.exchange.specs.declared.call.Call.the-variants.{Step}
+use Rattle.exchange.specs.Calls.{AllSized}
+use Rattle.traces.specs.Engines.{Agrees}
+use Rattle.traces.specs.RuleSets.{reading}
+use Rattle.kerberos.specs.Agreement.{Demand3}
+use Rattle.kerberos.specs.Messages.{parallel}
+use Rattle.kerberos.specs.Reading.{HD}
+use Rattle.realm.specs.declared.header.Opening.the-variants.{Open}
+use Rattle.realm.specs.declared.header.Realm.{Realm}
+use Rattle.realm.specs.New.{Lends}
+use Rattle.realm.specs.Opening.{header, openingOf}
+use Rattle.realm.specs.Tables.{Tables}
+use Rattle.simulation.specs.Engine.{New, opened-new}
+use Rattle.simulation.specs.Values.{valuesOf}
+use Rattle.calls.specs.Kept as kept
+use Rattle.calls.specs.Lent.{lentCall}
+use Rattle.calls.specs.Lists.{lentAfter, lentHistory}
+use Rattle.calls.specs.Same.{lent-together, lent-demand3, lent-agrees}
+
+-- ---- one call, on any tables
+
+-- "A refusal is its number alone. State, wire, cache and terms stay unchanged": the realm and every place of every table.
+pub refused-kept : (t : Tables) (c : Call) {k : ℕ} → lentCall t c .answer ≡ Refused k → lentCall t c .tables ≡ t
+refused-kept t c e = kept.refused-kept t c e
+
+-- ---- every list of calls from a new realm: what `open_realm` gave, and the caller's own tables, whatever stands in their places
+
+module _ (n flags ls la : ℕ) (ls-fits : ls < 2 ^ 32) (la-fits : la < 2 ^ 32) (h : Realm) (opened : openingOf n flags ls la ≡ Open h)
+    (t : Tables) (lends : Lends h t) (cs : List Call) (sized : AllSized cs) where
+  new : New (header h) t
+  new = opened-new n flags ls la h t ls-fits la-fits opened lends
+
+  -- Demand 3 holds of it,
+  pub public-demand3 : Demand3 parallel (header h) (lentHistory t cs)
+  public-demand3 = lent-demand3 (header h) t new cs sized
+
+  -- and "after each call the runs, the clock and the wire in the tables agree with these readings", and so do terms and cache.
+  pub public-agrees : Agrees HD (header h) (valuesOf (lentAfter t cs)) (reading HD (lentHistory t cs))
+  public-agrees = lent-agrees (header h) t new cs sized
+
+  -- Its tables never meet 10,
+  pub public-never-10 : (c : Call) → ¬ (lentCall (lentAfter t cs) c .answer ≡ Refused 10)
+  public-never-10 c e = kept.never-10 (lentAfter t cs) c (lent-together (header h) t new cs sized) e
+
+  -- a step 10 changes nothing,
+  pub public-query : (r a b m now : ℕ) → lentCall (lentAfter t cs) (Step 10 r a b m now) .tables ≡ lentAfter t cs
+  public-query r a b m now = kept.query-kept (lentAfter t cs) (lent-together (header h) t new cs sized) r a b m now
+
+  -- and neither does a leak of a key that is on the wire.
+  pub public-leak : (r a b m now : ℕ) → valuesOf (lentAfter t cs) .wire (key (session r)) → lentCall (lentAfter t cs) (Step 9 r a b m now) .tables ≡ lentAfter t cs
+  public-leak r a b m now k = kept.leak-kept (lentAfter t cs) (lent-together (header h) t new cs sized) r a b m now k

@@ -1,0 +1,113 @@
+-- No call answers 10: that number is the check's alone, which a library caller meets whose tables do not hold together.
+-- Assumes nothing.
+use Prim.Native.Nat.{ℕ, zero, suc}
+use mathlib.Core.Bool.{Bool, true, false, not, _&&_}
+use mathlib.Core.List.{List, [], _∷_}
+use mathlib.Core.Path.{_≡_, refl}
+use native.Mathlib.Omega.{arith}
+use borrow.Author.Tests.{eqb-false, eq-eqb}
+use lib.Dec.{ltb, eqb}
+use lib.ListN.{set}
+use Rattle.terms.specs.AllOf.{and-true}
+use Rattle.terms.specs.declared.table.Found.{Found}
+use Rattle.terms.specs.declared.table.Found.the-variants.{At, Nothing}
+use Rattle.terms.specs.Add.{addBy, addOf}
+use Rattle.terms.specs.Choice.{pick, no-true}
+use Rattle.terms.specs.Outcome as terms
+use Rattle.terms.specs.Rules.{spare, fieldsOk, refusalOf}
+use Rattle.terms.specs.Table.{findOf}
+use Rattle.words.specs.Word.{kindOf, rightOf, termOf, packed}
+use Rattle.exchange.specs.declared.call.Answer.the-variants.{Refused}
+use Rattle.exchange.specs.declared.call.Call.{Call}
+use Rattle.exchange.specs.declared.call.Call.the-variants as calls
+use Rattle.traces.specs.Lists.{_∈_, here, there}
+use Rattle.realm.specs.declared.input.Step.{Step}
+use Rattle.realm.specs.Tables.{Tables}
+use Rattle.decisions.specs.declared.Verdict.{Verdict}
+use Rattle.decisions.specs.declared.Verdict.the-variants as verdicts
+use Rattle.decisions.specs.Decision.{decision}
+use Rattle.decisions.specs.Laws.Refusals.{allOf}
+use Rattle.decisions.specs.Promises.{step-refusals}
+use Rattle.effects.specs.Apply.{answerOf, applied}
+use Rattle.effects.specs.Call.{numbered, byVerdict, stepped, called}
+use Rattle.effects.specs.Kept.{never, ok}
+
+-- ---- TM
+
+-- whether an answer is 10
+abbrev ten : terms.Answer → Bool
+ten (terms.number i) = false
+ten (terms.refused k) = eqb k 10
+
+same : {k : ℕ} → Refused k ≡ Refused 10 → k ≡ 10
+same e = cc
+
+told : (a : terms.Answer) → ten a ≡ false → ¬ (numbered a ≡ Refused 10)
+told (terms.number i) e q = never (numbered (terms.number i)) refl q
+told (terms.refused k) e q = eqb-false k 10 e (same q)
+
+-- 4, 5 or 6
+of-word : (n : ℕ) (ts : List ℕ) (at w : ℕ) → eqb (refusalOf n ts at w) 10 ≡ false
+unfolding refusalOf
+of-word n ts at w = by (ltb 6 (kindOf w)) (eqb (spare (termOf w) (rightOf w)) 0) (fieldsOk n ts at (termOf w))
+  where
+    by : (a b d : Bool) → eqb (pick a 4 (pick b (pick d 0 6) 5)) 10 ≡ false
+    by true b d = refl
+    by false false d = refl
+    by false true true = refl
+    by false true false = refl
+
+module _ (n : ℕ) (ts : List ℕ) (count w : ℕ) where
+  of-place : (f : Found) → ten (addBy ts count w f .answer) ≡ false
+  of-place (At i) = refl
+  of-place Nothing = by (eqb count 512)
+    where
+      by : (b : Bool) → ten (pick b (terms.refuse 20 count ts) (terms.accept count (suc count) (set ts count w)) .answer) ≡ false
+      by true = refl
+      by false = refl
+
+  of-term : ten (addOf n ts count w .answer) ≡ false
+  unfolding addOf
+  of-term = by (eqb (refusalOf n ts count w) 0)
+    where
+      by : (b : Bool) → ten (pick b (addBy ts count w (findOf ts count w)) (terms.refuse (refusalOf n ts count w) count ts) .answer) ≡ false
+      by true = of-place (findOf ts count w)
+      by false = of-word n ts count w
+
+-- ---- ST
+
+-- the number k is none of these
+abbrev others : ℕ → List ℕ → Bool
+others k [] = true
+others k (n ∷ ns) = not (eqb k n) && others k ns
+
+absent : (k : ℕ) (ns : List ℕ) → others k ns ≡ true → ¬ (k ∈ ns)
+absent k (n ∷ ns) e here = no-true (rw (eq-eqb k k refl) at e)
+absent k (n ∷ ns) e (there i) = absent k ns (and-true (not (eqb k n)) (others k ns) e .1) i
+
+-- the last column of the table of refusals has no 10
+no-ten : (step : ℕ) → others 10 (allOf step) ≡ true
+no-ten zero = refl
+no-ten (suc zero) = refl
+no-ten (suc (suc zero)) = refl
+no-ten (suc (suc (suc zero))) = refl
+no-ten (suc (suc (suc (suc zero)))) = refl
+no-ten (suc (suc (suc (suc (suc zero))))) = refl
+no-ten (suc (suc (suc (suc (suc (suc zero)))))) = refl
+no-ten (suc (suc (suc (suc (suc (suc (suc zero))))))) = refl
+no-ten (suc (suc (suc (suc (suc (suc (suc (suc zero)))))))) = refl
+no-ten (suc (suc (suc (suc (suc (suc (suc (suc (suc zero))))))))) = refl
+no-ten (suc (suc (suc (suc (suc (suc (suc (suc (suc (suc zero)))))))))) = refl
+no-ten (suc (suc (suc (suc (suc (suc (suc (suc (suc (suc (suc step))))))))))) = refl
+
+by-verdict : (t : Tables) (s : Step) (v : Verdict) → decision t s ≡ v → ¬ (byVerdict t v .answer ≡ Refused 10)
+unfolding applied
+by-verdict t s (verdicts.Takes x) d q = never (answerOf (x .names)) (ok (x .names)) q
+by-verdict t s (verdicts.Refused k) d q = absent 10 (allOf (s .step)) (no-ten (s .step)) (rw (same q) at (step-refusals t s d))
+
+pub never-10 : (t : Tables) (c : Call) → ¬ (called t c .answer ≡ Refused 10)
+unfolding called stepped
+never-10 t (calls.Term kind l r) q = told (addOf (t .realm .n) (t .terms) (t .realm .terms) (packed kind l r) .answer) (of-term (t .realm .n) (t .terms) (t .realm .terms) (packed kind l r)) q
+never-10 t (calls.Step step run a b m time) q =
+    let s : Step = record { step = step; run = run; a = a; b = b; m = m; t = time } in
+    by-verdict t s (decision t s) refl q
