@@ -9,6 +9,7 @@ pub mod Entries
 pub mod Wire
 pub mod Follows
 pub mod Terms
+pub mod TermsBack
 pub mod Taken
 pub mod Kept
 pub mod Engine

@@ -75,7 +75,7 @@ module _ {t : Tables} (w : Together t) (kind x y : ℕ) (size : Sized (Term kind
 
   module _ {R : Realm} (is : header (t .realm) ≡ R) (ρ : Reading Event) (a : Agrees HD R (valuesOf t) ρ) where
     pub adding-taken : rules.Takes parallel R (ρ .terms) (ρ .log) (Term kind x y) idle
-    adding-taken = term-takes w kind x y size o ρ a
+    adding-taken = term-takes w kind x y size o ρ a is
 
     pub adding-agrees : Agrees HD R (valuesOf (withTerms t count ts)) (read HD true (Term kind x y) ρ)
     adding-agrees = term-agrees w kind x y size o ρ a is

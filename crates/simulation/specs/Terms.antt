@@ -2,7 +2,7 @@
 -- the reading.
 -- Assumes nothing.
 use Prim.Native.Nat.{ℕ, zero, suc, _+_, _^_, _<_, _≤_}
-use mathlib.Core.Path.{_≡_, refl, sym, ap, _∙_, subst}
+use mathlib.Core.Path.{_≡_, refl, sym, ap, ap₂, _∙_, subst}
 use mathlib.Core.Bool.{Bool, true, false}
 use mathlib.Core.List.{List, [], _∷_, _++_, List·Memᴰ, List·Memᴰ·not-nil}
 use mathlib.Core.Logic.{_↔_, _⊎_, inl, ⊎-elim}
@@ -22,7 +22,7 @@ use Rattle.terms.specs.Meaning.{keyOf, messageOf, messageAt, message-at, messag
 use Rattle.terms.specs.Message.{Message, key}
 use Rattle.terms.specs.Number.{messages-once}
 use Rattle.terms.specs.Outcome.{Answer, number, refused, Outcome, accept, refuse}
-use Rattle.terms.specs.Rules.{isKey, refusalOf, Fields, passed, fields}
+use Rattle.terms.specs.Rules.{isKey, spare, refusalOf, Fields, passed, fields}
 use Rattle.terms.specs.Rules as rules
 use Rattle.terms.specs.Table.{findOf}
 use Rattle.terms.specs.Valid.{Valid}
@@ -38,7 +38,7 @@ use Rattle.exchange.specs.Calls.{Sized}
 use Rattle.traces.specs.RuleSets.{Reading, read}
 use Rattle.traces.specs.Realm.{Realm}
 use Rattle.kerberos.specs.Rules.{Takes, takes-term}
-use Rattle.traces.specs.Terms.{termOf, under, given}
+use Rattle.traces.specs.Terms.{termOf, under, given, FieldsFit}
 use Rattle.realm.specs.Opening.{header}
 use Rattle.realm.specs.Tables.{Tables, Together}
 use Rattle.simulation.specs.Values.{valuesOf}
@@ -48,7 +48,7 @@ use Rattle.simulation.specs.Follows.{next, Grows, next-together, next-ag
 
 -- ---- the word
 
-word-term : (kind x y : ℕ) → x < 2 ^ 16 → y < 2 ^ 16 → words.termOf (packed kind x y) ≡ termBy kind x y
+pub word-term : (kind x y : ℕ) → x < 2 ^ 16 → y < 2 ^ 16 → words.termOf (packed kind x y) ≡ termBy kind x y
 unfolding words.termOf
 word-term kind x y hx hy =
     let w = packed kind x y in
@@ -85,7 +85,7 @@ module _ (n : ℕ) (ts : List ℕ) (count w : ℕ) where
 -- ---- the message of a kind and its operands
 
 -- where the terms before `at` have the messages of sub
-by-kind : (n : ℕ) (ts : List ℕ) (at : ℕ) (terms : List Message) (sub : ℕ → Message) → ((k : ℕ) → k < at → termAt terms k ≡ some (sub k))
+pub by-kind : (n : ℕ) (ts : List ℕ) (at : ℕ) (terms : List Message) (sub : ℕ → Message) → ((k : ℕ) → k < at → termAt terms k ≡ some (sub k))
     → ((k : ℕ) → k < at → isKey (rules.termAt ts k) ≡ true → sub k ≡ key (keyOf (sub k)))
     → (kind x y : ℕ) → Fields n ts at (termBy kind x y) → termOf terms kind x y ≡ some (messageOf sub (termBy kind x y))
 by-kind n ts at terms sub s g zero x y f = refl
@@ -96,6 +96,15 @@ by-kind n ts at terms sub s g (suc (suc (suc (suc zero)))) x y f = refl
 by-kind n ts at terms sub s g (suc (suc (suc (suc (suc zero))))) x y f = rw (s x (f .0), s y (f .1))
 by-kind n ts at terms sub s g (suc (suc (suc (suc (suc (suc zero)))))) x y f = rw (s x (f .0), s y (f .1)) (ap (under (sub x)) (g y (f .1) (f .2)))
 by-kind n ts at terms sub s g (suc (suc (suc (suc (suc (suc (suc kind))))))) x y f = absurd f
+
+-- what the rules ask of the fields, where the word passed
+by-fields : (n : ℕ) (ts : List ℕ) (at kind x y : ℕ) → spare (termBy kind x y) y ≡ 0 → Fields n ts at (termBy kind x y) → FieldsFit n kind x y
+by-fields n ts at zero x y e f = (f, e)
+by-fields n ts at (suc zero) x y e f = tt
+by-fields n ts at (suc (suc zero)) x y e f = (f, e)
+by-fields n ts at (suc (suc (suc zero))) x y e f = (f, e)
+by-fields n ts at (suc (suc (suc (suc zero)))) x y e f = (f, e)
+by-fields n ts at (suc (suc (suc (suc (suc kind))))) x y e f = tt
 
 -- ---- the table after it
 
@@ -117,11 +126,17 @@ module _ {n : ℕ} {ts : List ℕ} {count : ℕ} (v : Valid n ts count) (kind x 
   by-term : words.termOf (packed kind x y) ≡ termBy kind x y
   by-term = word-term kind x y (size .1) (size .2)
 
+  fine : Fields n ts count (termBy kind x y)
+  fine = subst (Fields n ts count) by-term (fields n ts count (words.termOf (packed kind x y)) (passed n ts count (packed kind x y) (way .0) .fields))
+
+  pub term-fields : FieldsFit n kind x y
+  term-fields =
+      let right : words.rightOf (packed kind x y) ≡ y = omega (arith, size .2) in
+      by-fields n ts count kind x y (ap₂ spare (sym by-term) (sym right) ∙ passed n ts count (packed kind x y) (way .0) .unused) fine
+
   -- the message that the term stands for is that of its kind and operands
   pub term-made : termOf (meanings ts count) kind x y ≡ some (messageAt ts′ i)
   term-made =
-      let fine : Fields n ts count (termBy kind x y) =
-      subst (Fields n ts count) by-term (fields n ts count (words.termOf (packed kind x y)) (passed n ts count (packed kind x y) (way .0) .fields)) in
       by-kind n ts count (meanings ts count) (messageAt ts′) (λ k h. meanings-at ts count k h ∙ ap some (older k h))
       (λ k h q. sym (older k h) ∙ key-at (v .terms) k h q ∙ ap (λ (m : Message). key (keyOf m)) (older k h)) kind x y fine
       ∙ ap some (sym (message-at (valid .terms) i (is .0) ∙ ap (λ (w : ℕ). messageOf (messageAt ts′) (words.termOf w)) (is .1) ∙ ap (messageOf (messageAt ts′)) by-term))
@@ -194,8 +209,10 @@ module _ {t : Tables} (w : Together t) (kind x y : ℕ) (size : Sized (Term kind
     made : termOf (ρ .terms) kind x y ≡ some (messageAt ts i)
     made = subst (λ (l : List Message). termOf l kind x y ≡ some (messageAt ts i)) (a .terms-are) (term-made (w .terms-hold) kind x y size e)
 
-    pub term-takes : Takes parallel R (ρ .terms) (ρ .log) (Term kind x y) idle
-    term-takes = takes-term made (subst (λ (l : List Message). length (insert (messageAt ts i) l) ≤ 512) (a .terms-are) (term-room (w .terms-hold) kind x y size e))
+    pub term-takes : header (t .realm) ≡ R → Takes parallel R (ρ .terms) (ρ .log) (Term kind x y) idle
+    term-takes same =
+        takes-term (subst (λ (R : Realm). FieldsFit (R .n) kind x y) same (term-fields (w .terms-hold) kind x y size e)) made
+        (subst (λ (l : List Message). length (insert (messageAt ts i) l) ≤ 512) (a .terms-are) (term-room (w .terms-hold) kind x y size e))
 
     pub term-agrees : header (t .realm) ≡ R → Agrees HD R (valuesOf (withTerms t count ts)) (read HD true (Term kind x y) ρ)
     term-agrees same =

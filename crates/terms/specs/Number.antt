@@ -49,7 +49,7 @@ numberIn xs m = place xs (wordIn xs m)
 -- ---- a term's message has the term's number
 
 -- the word of a term's message, where its operands' messages have their numbers
-word-of : (n : ℕ) (ts xs : List ℕ) (at : ℕ) (sub : ℕ → Message) → ((k : ℕ) → k < at → numberIn xs (sub k) ≡ k)
+pub word-of : (n : ℕ) (ts xs : List ℕ) (at : ℕ) (sub : ℕ → Message) → ((k : ℕ) → k < at → numberIn xs (sub k) ≡ k)
     → ((k : ℕ) → k < at → isKey (termAt ts k) ≡ true → sub k ≡ key (keyOf (sub k)))
     → (t : Term) → Fields n ts at t → wordIn xs (messageOf sub t) ≡ wordOf t
 unfolding wordIn

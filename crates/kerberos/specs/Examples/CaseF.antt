@@ -62,7 +62,7 @@ lawful-accepting =
     (λ _. takes3 (record { form = refl; derivable = on-wire (sent here here) }) apart (le refl) (le refl)))
     (λ _. takes4 refl (record { form = refl; derivable = on-wire (sent here here) }) refl (le refl) (le refl)))
     (λ _. takes2 (le refl, le refl) apart (le refl)))
-    (λ _. takes-term refl (le refl)))
+    (λ _. takes-term tt refl (le refl)))
     (λ _. takes5 refl (record {
       form = refl;
       derivable = join (on-wire (sent (there (there (there here))) (there here))) (on-wire (sent (there (there here)) here));

@@ -50,11 +50,11 @@ lawful-asked : (flags : ℕ) → flags ≤ 4 → flags % 2 ≡ 0 → Lawful para
 unfolding ℕ-discrete
 lawful-asked flags h e =
     call (call (call (call (call (call (new (headerOf flags h e))
-    (λ _. takes-term refl (le refl)))
-    (λ _. takes-term refl (le refl)))
-    (λ _. takes-term refl (le refl)))
-    (λ _. takes-term refl (le refl)))
-    (λ _. takes-term refl (le refl)))
+    (λ _. takes-term {kind = 0} (le refl, refl) refl (le refl)))
+    (λ _. takes-term {kind = 0} (le refl, refl) refl (le refl)))
+    (λ _. takes-term {kind = 2} (le refl, refl) refl (le refl)))
+    (λ _. takes-term tt refl (le refl)))
+    (λ _. takes-term tt refl (le refl)))
     (λ _. takes3 (record { form = refl; derivable = join (a-principal (le refl)) (join (a-principal (le refl)) (own-nonce own64)) }) apart (le refl) (le refl))
 
 -- the intruder's authenticator with that key is term 16
@@ -89,8 +89,8 @@ unleaked-needed = record {
   lawful = call (call (call (call (call (lawful-asked 0 (le refl) refl)
       (λ _. takes9 refl))
       (λ _. takes2 (le refl, le refl) apart (le refl)))
-      (λ _. takes-term refl (le refl)))
-      (λ _. takes-term refl (le refl)))
+      (λ _. takes-term tt refl (le refl)))
+      (λ _. takes-term tt refl (le refl)))
       (λ _. takes5 refl (record {
         form = refl;
         derivable = join (on-wire (sent (there (there (there (there here)))) (there here)))
@@ -120,8 +120,8 @@ unfolding ℕ-discrete
 goodA-needed = record {
   lawful = call (call (call (call (lawful-asked 2 (le refl) refl)
       (λ _. takes2 (le refl, le refl) apart (le refl)))
-      (λ _. takes-term refl (le refl)))
-      (λ _. takes-term refl (le refl)))
+      (λ _. takes-term tt refl (le refl)))
+      (λ _. takes-term tt refl (le refl)))
       (λ _. takes5 refl (record {
         form = refl;
         derivable = join (on-wire (sent (there (there (there here))) (there here)))
@@ -162,15 +162,15 @@ pub goodB-needed : Alone (realmOf 4) badB 0 64
 unfolding ℕ-discrete
 goodB-needed = record {
   lawful = call (call (call (call (call (call (call (call (call (call (call (new (headerOf 4 (le refl) refl))
-      (λ _. takes-term refl (le refl)))
-      (λ _. takes-term refl (le refl)))
-      (λ _. takes-term refl (le refl)))
-      (λ _. takes-term refl (le refl)))
-      (λ _. takes-term refl (le refl)))
-      (λ _. takes-term refl (le refl)))
-      (λ _. takes-term refl (le refl)))
-      (λ _. takes-term refl (le refl)))
-      (λ _. takes-term refl (le refl)))
+      (λ _. takes-term {kind = 0} (le refl, refl) refl (le refl)))
+      (λ _. takes-term tt refl (le refl)))
+      (λ _. takes-term tt refl (le refl)))
+      (λ _. takes-term {kind = 4} (le refl, refl) refl (le refl)))
+      (λ _. takes-term tt refl (le refl)))
+      (λ _. takes-term {kind = 3} (le refl, refl) refl (le refl)))
+      (λ _. takes-term tt refl (le refl)))
+      (λ _. takes-term tt refl (le refl)))
+      (λ _. takes-term tt refl (le refl)))
       (λ _. takes2 (le refl, le refl) apart (le refl)))
       (λ _. takes5 refl (record {
         form = refl;

@@ -66,7 +66,7 @@ read-grant : (f : Form) (r ta a b k ts n : ℕ)
 read-grant parallel r ta a b k ts n = refl
 
 pub taken-read : {f : Form} {R : Realm} (ρ : Reading Event) {c : Call} {a : Act} → Takes f R (ρ .terms) (ρ .log) c a → actOf f c ρ ≡ a
-taken-read ρ (takes-term m z) = refl
+taken-read ρ (takes-term i m z) = refl
 taken-read ρ (takes1 i p s z) = refl
 taken-read ρ (takes2 i p s) = refl
 taken-read ρ (takes3 d p s z) = given-some _ _ (d .form)

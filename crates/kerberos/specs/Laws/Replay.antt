@@ -60,7 +60,7 @@ Remembered R l b k ta = (entry b k ta ∈ cache R l) ⊎ (ta + R .authLife ≤ c
 stays : {f : Form} {R : Realm} {l : Log} {e : Event} {ms : List Message} (b k ta : ℕ) → Adds f R l (e, ms) → Remembered R l b k ta → Remembered R ((e, ms) ∷ l) b k ta
 unfolding Remembered
 stays b k ta refused h = h
-stays b k ta (taken (takes-term m f)) h = h
+stays b k ta (taken (takes-term i m f)) h = h
 stays b k ta (taken (takes1 i p s f)) h = h
 stays b k ta (taken (takes2 i p s)) h = h
 stays b k ta (taken (takes3 d p s f)) h = h

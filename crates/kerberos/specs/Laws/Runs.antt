@@ -45,7 +45,7 @@ story r (some (serverDone a b k ts n)) = Issue r a b ts n ∷ []
 
 effect : {f : Form} {R : Realm} {l : Log} {e : Event} {ms : List Message} → Adds f R l (e, ms) → Effect of story e (runs l) (runs ((e, ms) ∷ l))
 effect refused = rested refl refl
-effect (taken (takes-term h f)) = rested refl refl
+effect (taken (takes-term i h f)) = rested refl refl
 effect {l = l} (taken (takes1 i p s f)) = moved refl (change-append (runs l) _) refl
 effect {l = l} (taken (takes2 i p s)) = moved refl (change-append (runs l) _) refl
 effect {l = l} (taken (takes3 d p s f)) = moved refl (change-append (runs l) _) refl
