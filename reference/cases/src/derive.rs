@@ -17,10 +17,16 @@ use crate::calls::word;
 use crate::line::Line;
 use crate::Program;
 
-pub struct Questions {
+/// How many terms there are, and how many places and words are lent.
+#[derive(Clone, Copy, Debug, Default, PartialEq, Eq)]
+pub struct Lent {
     pub count: usize,
     pub places: usize,
     pub words: usize,
+}
+
+pub struct Questions {
+    pub lent: Lent,
     pub terms: Vec<u64>,
     pub wire: Vec<u64>,
 }
@@ -28,7 +34,7 @@ pub struct Questions {
 impl Default for Questions {
     fn default() -> Questions {
         let (terms, wire) = (vec![0; TERM_PLACES + 1], vec![0; WIRE_WORDS + 1]);
-        Questions { count: 0, places: 0, words: 0, terms, wire }
+        Questions { lent: Lent::default(), terms, wire }
     }
 }
 
@@ -38,10 +44,10 @@ impl Questions {
         let mut tables = Tables {
             header: Header { principals: 3, flags: 4, ticket_life: 1, authenticator_life: 1 },
             clock: 0,
-            counts: Counts { terms: self.count, ..Counts::default() },
-            terms: self.terms[..self.places].to_vec(),
+            counts: Counts { terms: self.lent.count, ..Counts::default() },
+            terms: self.terms[..self.lent.places].to_vec(),
             runs: vec![0; RUN_WORDS],
-            wire: self.wire[..self.words].to_vec(),
+            wire: self.wire[..self.lent.words].to_vec(),
             cache: [Place::default(); MAX_ENTRIES],
         };
         let asks = StepRecord { step: 10, message: term as u16, ..StepRecord::default() };
@@ -61,7 +67,8 @@ impl Program for Questions {
         };
         match letter {
             'C' => {
-                (self.count, self.places, self.words) = (a as usize, b as usize, c as usize);
+                let [count, places, words] = [a, b, c].map(|number| number as usize);
+                self.lent = Lent { count, places, words };
             }
             'T' => self.terms[a as usize] = word(b, c, d),
             'W' => self.wire[a as usize] = u64::from(b) << 32 | u64::from(c),

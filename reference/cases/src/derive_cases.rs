@@ -4,7 +4,7 @@
 use reference::tables::{TERM_PLACES, WIRE_WORDS};
 
 use crate::calls::word;
-use crate::derive::Questions;
+use crate::derive::{Lent, Questions};
 use crate::Script;
 
 /// A term: kind, L and R.
@@ -41,23 +41,13 @@ fn encrypted(body: u32, key: u32) -> Term {
 impl Script<Questions> {
     /// A question on these terms, with marks on these.
     fn ask(&mut self, text: &str, terms: &[Term], wire: &[usize], term: u32) {
-        self.ask_lent(text, terms, terms.len(), TERM_PLACES, wire, WIRE_WORDS, term);
+        let lent = Lent { count: terms.len(), places: TERM_PLACES, words: WIRE_WORDS };
+        self.ask_lent(text, terms, lent, wire, term);
     }
 
-    #[allow(clippy::too_many_arguments)]
-    fn ask_lent(
-        &mut self,
-        text: &str,
-        terms: &[Term],
-        count: usize,
-        places: usize,
-        wire: &[usize],
-        words: usize,
-        term: u32,
-    ) {
-        let now = &self.program;
-        if (now.count, now.places, now.words) != (count, places, words) {
-            self.numbers('C', &[count as u32, places as u32, words as u32]);
+    fn ask_lent(&mut self, text: &str, terms: &[Term], lent: Lent, wire: &[usize], term: u32) {
+        if self.program.lent != lent {
+            self.numbers('C', &[lent.count, lent.places, lent.words].map(|n| n as u32));
         }
         for (place, (kind, left, right)) in terms.iter().enumerate() {
             if self.program.terms[place] != word(*kind, *left, *right) {
@@ -173,10 +163,11 @@ fn own_numbers(script: &mut Script<Questions>) {
 /// 10 for a table of another size, and for a count over the limit.
 fn refused_sizes(script: &mut Script<Questions>) {
     let terms = [principal(0)];
-    script.ask_lent("511 places", &terms, 1, 511, &[], WIRE_WORDS, 0);
+    let one = Lent { count: 1, places: TERM_PLACES, words: WIRE_WORDS };
+    script.ask_lent("511 places", &terms, Lent { places: 511, ..one }, &[], 0);
     script.ask("512 places", &terms, &[], 0);
-    script.ask_lent("513 places", &terms, 1, 513, &[], WIRE_WORDS, 0);
-    script.ask_lent("count 513", &terms, 513, TERM_PLACES, &[], WIRE_WORDS, 0);
+    script.ask_lent("513 places", &terms, Lent { places: 513, ..one }, &[], 0);
+    script.ask_lent("count 513", &terms, Lent { count: 513, ..one }, &[], 0);
 }
 
 /// 10 for a term that breaks rule 4, 5 or 6, and for one that repeats. It stands
@@ -206,8 +197,9 @@ fn refused_terms(script: &mut Script<Questions>) {
 /// 10 for a wire of another size, and for a mark past the last term; before 6.
 fn refused_wires(script: &mut Script<Questions>) {
     let terms = [principal(0)];
-    script.ask_lent("wire of 7 words", &terms, 1, TERM_PLACES, &[], 7, 0);
-    script.ask_lent("wire of 9 words", &terms, 1, TERM_PLACES, &[], 9, 0);
+    let one = Lent { count: 1, places: TERM_PLACES, words: WIRE_WORDS };
+    script.ask_lent("wire of 7 words", &terms, Lent { words: 7, ..one }, &[], 0);
+    script.ask_lent("wire of 9 words", &terms, Lent { words: 9, ..one }, &[], 0);
     script.ask("mark on the last term", &terms, &[0], 0);
     script.ask("mark past the last term", &terms, &[1], 0);
     script.ask("mark on the last place", &terms, &[511], 0);
