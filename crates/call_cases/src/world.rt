@@ -8,6 +8,7 @@ use cases::Line;
 use cases::least;
 use cases::print_changes;
 use cases::print_text;
+use cases::word;
 use effects::apply::After;
 use engine::lent::checked_call;
 use exchange::call::Answer;
@@ -20,6 +21,7 @@ use replay::entry::Entry;
 // The words of a run.
 const ROW: usize = 7;
 
+// Each table has a place more than it should.
 pub struct World {
     pub realm: Realm,
     pub terms: [u64; 513],
@@ -32,6 +34,7 @@ pub struct World {
     pub wire_words: usize,
 }
 
+// Nothing is in use, and nothing that stands in the places could be.
 pub fn new() -> World {
     World {
         realm: Realm {
@@ -87,9 +90,7 @@ fn set_term(w: World, line: Line) -> World {
     let mut next = w;
     let place = line.a as usize;
     if place < 513 {
-        next.terms[place] = (line.b as u64) % 65536 * 4294967296
-            + (line.c as u64) % 65536 * 65536
-            + (line.d as u64) % 65536;
+        next.terms[place] = word(line.b, line.c, line.d);
     }
     next
 }
@@ -97,10 +98,10 @@ fn set_term(w: World, line: Line) -> World {
 fn set_run(w: World, line: Line) -> World {
     let mut next = w;
     let run = line.a as usize;
-    let word = line.b as usize;
+    let field = line.b as usize;
     if run < 64 {
-        if word < ROW {
-            next.runs[run * ROW + word] = line.c;
+        if field < ROW {
+            next.runs[run * ROW + field] = line.c;
         }
     }
     next
@@ -108,9 +109,9 @@ fn set_run(w: World, line: Line) -> World {
 
 fn set_wire(w: World, line: Line) -> World {
     let mut next = w;
-    let word = line.a as usize;
-    if word < 9 {
-        next.wire[word] = (line.b as u64) * 4294967296 + (line.c as u64);
+    let place = line.a as usize;
+    if place < 9 {
+        next.wire[place] = (line.b as u64) * 4294967296 + (line.c as u64);
     }
     next
 }

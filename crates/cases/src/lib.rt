@@ -92,6 +92,11 @@ pub fn print_text(bytes: [u8; 68]) {
     io::write_all(1, &bytes[FIRST..end]);
 }
 
+// The word of a term; its kind is any of 16 bits.
+pub fn word(kind: u32, l: u32, r: u32) -> u64 {
+    (kind as u64) % 65536 * 4294967296 + (l as u64) % 65536 * 65536 + (r as u64) % 65536
+}
+
 // The lesser number: of the places of a table, no more can be lent than there are.
 pub fn least(x: usize, y: usize) -> usize
     ensures { λ r. ⌜ r ≤ y ⌝ }

@@ -9,8 +9,10 @@
 //   W  a word of the wire; its upper and its lower half
 //   Q  a term's number: can the intruder derive it?
 use cases::Line;
+use cases::least;
 use cases::print_number;
 use cases::print_text;
+use cases::word;
 use deduction::Principals;
 use synthesis::lent::Answer;
 use synthesis::lent::can_derive;
@@ -41,19 +43,15 @@ fn report(answer: Answer) {
 }
 
 fn ask(terms: &[u64], places: usize, count: usize, wire: &[u64], words: usize, t: usize) {
-    if terms.len() < places {
-        return;
-    }
-    if wire.len() < words {
-        return;
-    }
+    let p = least(places, terms.len());
+    let w = least(words, wire.len());
     let realm = Principals { n: 3, flags: 4 };
-    report(can_derive(&terms[..places], count, realm, &wire[..words], t));
+    report(can_derive(&terms[..p], count, realm, &wire[..w], t));
 }
 
-fn put(places: &mut [u64], at: usize, word: u64) {
+fn put(places: &mut [u64], at: usize, value: u64) {
     if at < places.len() {
-        places[at] = word;
+        places[at] = value;
     }
 }
 
@@ -73,13 +71,7 @@ fn obey(terms: &mut [u64], wire: &mut [u64], lent: Lent, line: Line) -> Lent {
             };
         }
         b'T' => {
-            put(
-                terms,
-                line.a as usize,
-                (line.b as u64) % 65536 * 4294967296
-                    + (line.c as u64) % 65536 * 65536
-                    + (line.d as u64) % 65536,
-            );
+            put(terms, line.a as usize, word(line.b, line.c, line.d));
         }
         b'W' => {
             put(

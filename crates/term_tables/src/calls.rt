@@ -6,6 +6,7 @@ use cases::Line;
 use cases::least;
 use cases::print_changes;
 use cases::print_text;
+use cases::word;
 use drafts::DraftKey;
 use drafts::Node;
 use messages::lent::Stored;
@@ -17,6 +18,7 @@ use terms::table::Added;
 
 const PRINCIPALS: u16 = 3;
 
+// The table has a place more than it should.
 pub struct Table {
     pub terms: [u64; 513],
     pub count: usize,
@@ -39,10 +41,6 @@ fn half(x: u32) -> u16 {
     (x % 65536) as u16
 }
 
-fn word(kind: u32, l: u32, r: u32) -> u64 {
-    (kind as u64) % 65536 * 4294967296 + (half(l) as u64) * 65536 + (half(r) as u64)
-}
-
 fn set_counts(t: Table, count: usize, places: usize) -> Table {
     let mut next = t;
     next.count = count;
@@ -50,10 +48,10 @@ fn set_counts(t: Table, count: usize, places: usize) -> Table {
     next
 }
 
-fn set_term(t: Table, place: usize, word: u64) -> Table {
+fn set_term(t: Table, place: usize, term: u64) -> Table {
     let mut next = t;
     if place < 513 {
-        next.terms[place] = word;
+        next.terms[place] = term;
     }
     next
 }
@@ -92,14 +90,14 @@ fn draft(nodes: [u32; 48]) -> [Node; 16] {
     made
 }
 
-fn found(terms: &[u64], places: usize, count: usize, word: u64) -> Lookup {
+fn found(terms: &[u64], places: usize, count: usize, term: u64) -> Lookup {
     let p = least(places, terms.len());
-    find_term(&terms[..p], count, PRINCIPALS, word)
+    find_term(&terms[..p], count, PRINCIPALS, term)
 }
 
-fn added(terms: &mut [u64], places: usize, count: usize, word: u64) -> Added {
+fn added(terms: &mut [u64], places: usize, count: usize, term: u64) -> Added {
     let p = least(places, terms.len());
-    add_term(&mut terms[..p], count, PRINCIPALS, word)
+    add_term(&mut terms[..p], count, PRINCIPALS, term)
 }
 
 fn stored(terms: &mut [u64], places: usize, count: usize, made: [Node; 16], root: usize) -> Stored {
@@ -107,9 +105,9 @@ fn stored(terms: &mut [u64], places: usize, count: usize, made: [Node; 16], root
     add_message(&mut terms[..p], count, PRINCIPALS, made, root)
 }
 
-fn find(t: Table, word: u64) -> Table {
+fn find(t: Table, term: u64) -> Table {
     let terms = t.terms;
-    print_lookup(found(&terms, t.places, t.count, word));
+    print_lookup(found(&terms, t.places, t.count, term));
     t
 }
 
@@ -126,9 +124,9 @@ fn after(t: Table, terms: [u64; 513], count: usize) -> Table {
     }
 }
 
-fn add(t: Table, word: u64) -> Table {
+fn add(t: Table, term: u64) -> Table {
     let mut terms = t.terms;
-    let answer = added(&mut terms, t.places, t.count, word);
+    let answer = added(&mut terms, t.places, t.count, term);
     print_added(answer);
     match answer {
         Added::Old(_) => after(t, terms, t.count),

@@ -1,4 +1,4 @@
--- `ask` lends no more than the tables have: it has compared the lengths. Assumes nothing.
+-- `ask` lends no more than the tables have: `least` keeps each number of places below. Assumes nothing.
 use borrow.Author.Needs.{needs}
 use mathlib.Core.Path.{sym}
 use native.Mathlib.Omega.{arith}
@@ -6,11 +6,11 @@ use lib.Seq.{length-take-le}
 use Rattle.derive_cases.proofs.ask.Statement.{statement}
 use Rattle.derive_cases.proofs.ask.Tie as tie
 
-returns : tie.Need-returns
-returns c = search needs
+least-requires : tie.Need-least-requires
+least-requires c κs = search needs
 
-returns-2 : tie.Need-returns-2
-returns-2 c = search needs
+least-requires-2 : tie.Need-least-requires-2
+least-requires-2 c κs = search needs
 
 slice-aggregate-can-derive : tie.Need-slice-aggregate-can-derive
 slice-aggregate-can-derive c = sym (length-take-le _ _ (omega arith))
@@ -24,17 +24,17 @@ can-derive-requires c κs = search needs
 report-requires : tie.Need-report-requires
 report-requires c κs = search needs
 
-returns-3 : tie.Need-returns-3
-returns-3 c = search needs
+returns : tie.Need-returns
+returns c = search needs
 
 pub ask-spec : {M : Type 1} → statement M
 ask-spec =
     tie.close
     (tie.spec
-    returns
-    returns-2
+    least-requires
+    least-requires-2
     slice-aggregate-can-derive
     slice-aggregate-can-derive-2
     can-derive-requires
     report-requires
-    returns-3)
+    returns)
