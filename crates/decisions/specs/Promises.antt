@@ -3,6 +3,7 @@
 -- Assumes nothing.
 use Prim.Native.Nat.{ℕ}
 use mathlib.Core.Path.{_≡_, subst}
+use mathlib.Core.Logic.{_↔_}
 use Rattle.traces.specs.Lists.{_∈_}
 use Rattle.realm.specs.declared.input.Step.{Step}
 use Rattle.realm.specs.Tables.{Tables, Together}
@@ -10,6 +11,7 @@ use Rattle.realm.specs.Fields.{callOf}
 use Rattle.decisions.specs.declared.Effect.{Effect}
 use Rattle.decisions.specs.declared.Verdict.the-variants.{Takes, Refused}
 use Rattle.decisions.specs.Decision.{decided, decision}
+use Rattle.decisions.specs.Laws.Exact.{took-decided}
 use Rattle.decisions.specs.Laws.Fits.{EffectFits, took-fits}
 use Rattle.decisions.specs.Laws.Refusals.{allOf, Tells, tells}
 use Rattle.decisions.specs.Laws.Took.{TookAs}
@@ -28,3 +30,7 @@ module _ (t : Tables) (s : Step) (w : Together t) {x : Effect} (d : decided t s 
   -- its row, its entry and its messages are such as the tables can hold.
   pub taken-fits : EffectFits t x
   taken-fits = took-fits t w (taken-as .took)
+
+-- A step is taken, but for 20, exactly where it has met what its row of the step table asks for.
+pub taken-exact : (t : Tables) → Together t → (s : Step) {x : Effect} → (decided t s ≡ Takes x) ↔ TookAs t (callOf s) x
+taken-exact t w s = (verdicts.took t w s, λ k. took-decided t w s (k .took))
