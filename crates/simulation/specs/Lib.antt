@@ -4,6 +4,7 @@ pub mod Values
 pub mod Cached
 pub mod Mirrors
 pub mod Rules
+pub mod Back
 pub mod Runs
 pub mod Entries
 pub mod Wire
