@@ -1,8 +1,9 @@
 -- What the public call leaves as it was, from what the call by value does.
 -- Assumes nothing.
 use Prim.Native.Nat.{ℕ}
-use mathlib.Core.Path.{_≡_, refl, sym, ap, _∙_}
+use mathlib.Core.Path.{_≡_, refl, sym, ap, subst, _∙_}
 use mathlib.Core.Bool.{Bool, true, false}
+use mathlib.Core.Logic.{_↔_}
 use lib.Dec.{eqb}
 use lib.ListN.{length}
 use Rattle.terms.specs.Choice.{pick}
@@ -11,11 +12,19 @@ use Rattle.exchange.specs.declared.call.Answer.{Answer}
 use Rattle.exchange.specs.declared.call.Answer.the-variants.{Refused}
 use Rattle.exchange.specs.declared.call.Call.{Call}
 use Rattle.exchange.specs.declared.call.Call.the-variants.{Step}
+use Rattle.exchange.specs.Calls.{accepts, Sized}
+use Rattle.traces.specs.Realm.{Realm}
+use Rattle.traces.specs.RuleSets.{Reading}
+use Rattle.kerberos.specs.Log.{Event, Act}
+use Rattle.kerberos.specs.Messages.{parallel}
+use Rattle.kerberos.specs.Rules.{Takes}
 use Rattle.realm.specs.Check.{together}
 use Rattle.realm.specs.Tables.{Tables, Together}
 use Rattle.effects.specs.Apply.{Outcome, refuse}
 use Rattle.effects.specs.Call.{called, checked}
 use Rattle.effects.specs.Promises as effects
+use Rattle.simulation.specs.Engine.{Follows}
+use Rattle.simulation.specs.Exact.{Takable, toldOf}
 use Rattle.simulation.specs.Promises as simulation
 use Rattle.simulation.specs.Values.{valuesOf}
 use Rattle.calls.specs.Lent.{lentCall}
@@ -50,3 +59,14 @@ query-kept t w r a b m now = same-tables t (Step 10 r a b m now) w ∙ simulatio
 
 pub leak-kept : (t : Tables) → Together t → (r a b m now : ℕ) → valuesOf t .wire (key (session r)) → lentCall t (Step 9 r a b m now) .tables ≡ t
 leak-kept t w r a b m now k = same-tables t (Step 9 r a b m now) w ∙ simulation.leak-kept t w r a b m now k
+
+-- ---- what is accepted
+
+module _ {R : Realm} {t : Tables} {ρ : Reading Event} (f : Follows R t ρ) where
+  pub accepted-exact : (c : Call) → Sized c → (accepts (lentCall t c .answer) ≡ true) ↔ Takable R ρ c
+  accepted-exact c size =
+      subst (λ (a : Answer). (accepts a ≡ true) ↔ Takable R ρ c) (sym (same-answer t c (f .together))) (simulation.accepted-exact R t ρ f c size)
+
+  pub step-answer : (step r a b m now : ℕ) {act : Act} → Takes parallel R (ρ .terms) (ρ .log) (Step step r a b m now) act
+      → lentCall t (Step step r a b m now) .answer ≡ toldOf (act .0)
+  step-answer step r a b m now k = same-answer t (Step step r a b m now) (f .together) ∙ simulation.step-answer R t ρ f step r a b m now k

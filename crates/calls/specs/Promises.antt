@@ -3,28 +3,33 @@
 -- Assumes nothing.
 use Prim.Native.Nat.{ℕ, _^_, _<_}
 use mathlib.Core.Path.{_≡_}
+use mathlib.Core.Bool.{true}
 use mathlib.Core.List.{List}
+use mathlib.Core.Logic.{_↔_}
 use Rattle.terms.specs.Message.{session, key}
 use Rattle.exchange.specs.declared.call.Answer.the-variants.{Refused}
 use Rattle.exchange.specs.declared.call.Call.{Call}
 use Rattle.exchange.specs.declared.call.Call.the-variants.{Step}
-use Rattle.exchange.specs.Calls.{AllSized}
+use Rattle.exchange.specs.Calls.{accepts, Sized, AllSized}
 use Rattle.traces.specs.Engines.{Agrees}
 use Rattle.traces.specs.RuleSets.{reading}
 use Rattle.kerberos.specs.Agreement.{Demand3}
+use Rattle.kerberos.specs.Log.{Act}
 use Rattle.kerberos.specs.Messages.{parallel}
 use Rattle.kerberos.specs.Reading.{HD}
+use Rattle.kerberos.specs.Rules.{Takes}
 use Rattle.realm.specs.declared.header.Opening.the-variants.{Open}
 use Rattle.realm.specs.declared.header.Realm.{Realm}
 use Rattle.realm.specs.New.{Lends}
 use Rattle.realm.specs.Opening.{header, openingOf}
 use Rattle.realm.specs.Tables.{Tables}
 use Rattle.simulation.specs.Engine.{New, opened-new}
+use Rattle.simulation.specs.Exact.{Takable, toldOf}
 use Rattle.simulation.specs.Values.{valuesOf}
 use Rattle.calls.specs.Kept as kept
 use Rattle.calls.specs.Lent.{lentCall}
 use Rattle.calls.specs.Lists.{lentAfter, lentHistory}
-use Rattle.calls.specs.Same.{lent-together, lent-demand3, lent-agrees}
+use Rattle.calls.specs.Same.{lent-follows, lent-demand3, lent-agrees}
 
 -- ---- one call, on any tables
 
@@ -47,14 +52,23 @@ module _ (n flags ls la : ℕ) (ls-fits : ls < 2 ^ 32) (la-fits : la < 2 ^ 32) (
   pub public-agrees : Agrees HD (header h) (valuesOf (lentAfter t cs)) (reading HD (lentHistory t cs))
   public-agrees = lent-agrees (header h) t new cs sized
 
+  -- A call is accepted exactly where the rules take it, in the reading of the calls before it,
+  pub public-exact : (c : Call) → Sized c → (accepts (lentCall (lentAfter t cs) c .answer) ≡ true) ↔ Takable (header h) (reading HD (lentHistory t cs)) c
+  public-exact c size = kept.accepted-exact (lent-follows (header h) t new cs sized) c size
+
+  -- and a step's answer tells the run that its event opened or names.
+  pub public-answer : (step r a b m now : ℕ) {act : Act} → let ρ = reading HD (lentHistory t cs) in
+      Takes parallel (header h) (ρ .terms) (ρ .log) (Step step r a b m now) act → lentCall (lentAfter t cs) (Step step r a b m now) .answer ≡ toldOf (act .0)
+  public-answer step r a b m now k = kept.step-answer (lent-follows (header h) t new cs sized) step r a b m now k
+
   -- Its tables never meet 10,
   pub public-never-10 : (c : Call) → ¬ (lentCall (lentAfter t cs) c .answer ≡ Refused 10)
-  public-never-10 c e = kept.never-10 (lentAfter t cs) c (lent-together (header h) t new cs sized) e
+  public-never-10 c e = kept.never-10 (lentAfter t cs) c (lent-follows (header h) t new cs sized .together) e
 
   -- a step 10 changes nothing,
   pub public-query : (r a b m now : ℕ) → lentCall (lentAfter t cs) (Step 10 r a b m now) .tables ≡ lentAfter t cs
-  public-query r a b m now = kept.query-kept (lentAfter t cs) (lent-together (header h) t new cs sized) r a b m now
+  public-query r a b m now = kept.query-kept (lentAfter t cs) (lent-follows (header h) t new cs sized .together) r a b m now
 
   -- and neither does a leak of a key that is on the wire.
   pub public-leak : (r a b m now : ℕ) → valuesOf (lentAfter t cs) .wire (key (session r)) → lentCall (lentAfter t cs) (Step 9 r a b m now) .tables ≡ lentAfter t cs
-  public-leak r a b m now k = kept.leak-kept (lentAfter t cs) (lent-together (header h) t new cs sized) r a b m now k
+  public-leak r a b m now k = kept.leak-kept (lentAfter t cs) (lent-follows (header h) t new cs sized .together) r a b m now k

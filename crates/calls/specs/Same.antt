@@ -14,8 +14,8 @@ use Rattle.kerberos.specs.Reading.{HD}
 use Rattle.realm.specs.Tables.{Tables, Together}
 use Rattle.effects.specs.Apply.{Outcome}
 use Rattle.effects.specs.Call.{called}
-use Rattle.simulation.specs.Engine.{New, engineOf}
-use Rattle.simulation.specs.Promises.{demand3, tables-follow, ten-unmet}
+use Rattle.simulation.specs.Engine.{New, Follows, engineOf}
+use Rattle.simulation.specs.Promises.{demand3, ten-unmet}
 use Rattle.simulation.specs.Values.{valuesOf}
 use Rattle.calls.specs.Lent.{lentCall, lent-checked}
 use Rattle.calls.specs.Lists.{lentAfter, lentHistory}
@@ -42,13 +42,14 @@ module _ (R : Realm) (t : Tables) (new : New R t) where
   same-history (c ∷ cs) size = λ i.
       (c, ap (λ (o : Outcome). o .answer) (same cs (size .1) (same-after cs (size .1)) c) i) ∷ same-history cs (size .1) i
 
-  pub lent-together : (cs : List Call) → AllSized cs → Together (lentAfter t cs)
-  lent-together cs size = rw (same-after cs size) (engine-together cs size)
+  -- and the public call's tables follow the reading of the public calls
+  pub lent-follows : (cs : List Call) → AllSized cs → Follows R (lentAfter t cs) (reading HD (lentHistory t cs))
+  lent-follows cs size =
+      subst (λ (s : Tables). Follows R s (reading HD (lentHistory t cs))) (sym (same-after cs size))
+      (subst (λ (p : History). Follows R (after HD R (engineOf R t new) cs) (reading HD p)) (sym (same-history cs size)) (fits HD R (engineOf R t new) cs size))
 
   pub lent-demand3 : (cs : List Call) → AllSized cs → Demand3 parallel R (lentHistory t cs)
   lent-demand3 cs size = subst (Demand3 parallel R) (sym (same-history cs size)) (demand3 R t new cs size)
 
   pub lent-agrees : (cs : List Call) → AllSized cs → Agrees HD R (valuesOf (lentAfter t cs)) (reading HD (lentHistory t cs))
-  lent-agrees cs size =
-      subst (λ (s : Tables). Agrees HD R (valuesOf s) (reading HD (lentHistory t cs))) (sym (same-after cs size))
-      (subst (λ (p : History). Agrees HD R (valuesOf (after HD R (engineOf R t new) cs)) (reading HD p)) (sym (same-history cs size)) (tables-follow R t new cs size))
+  lent-agrees cs size = lent-follows cs size .agrees

@@ -1,7 +1,7 @@
 -- The test of a header says exactly that refusal 2 lets it pass, where its fields have the widths of the file.
 -- Assumes nothing.
 use Prim.Native.Nat.{ℕ, zero, suc, _+_, _/_, _%_, _^_, _<_, _≤_}
-use mathlib.Core.Path.{_≡_, refl, sym, ap, _∙_}
+use mathlib.Core.Path.{_≡_, sym, ap, _∙_}
 use mathlib.Core.Bool.{Bool, true, false, not, _&&_}
 use mathlib.Core.Logic.{_≢_}
 use native.Mathlib.Nat.{div-le-self, div-lt-iff-lt-mul, pow-suc}

@@ -8,10 +8,6 @@ use mathlib.Core.List.{List, [], _∷_, map, List·Memᴰ, List·Memᴰ·head, L
 use mathlib.Core.Option.{some}
 use native.Mathlib.Omega.{arith}
 use lib.ListN.{length, getElem?}
-use Rattle.words.specs.declared.Term.the-variants.{SessionKey}
-use Rattle.words.specs.Word.{termOf, term-back}
-use Rattle.terms.specs.Meaning.{messageOf, messageAt, message-at}
-use Rattle.terms.specs.Valid.{Terms}
 use Rattle.terms.specs.Message.{Message, session, key, pair}
 use Rattle.terms.specs.Choice.{is-false}
 use Rattle.deduction.specs.Promises.{monotone}
@@ -20,7 +16,8 @@ use Rattle.messages.specs.Meanings.{meanings-length, meanings-at, at-meanings}
 use Rattle.replay.specs.Cache.{present, entries}
 use Rattle.replay.specs.Promises.{present-exactly}
 use Rattle.replay.specs.declared.entry.Entry as replay
-use Rattle.runs.specs.Lent.{PrincipalsFit, KeyStands}
+use Rattle.runs.specs.Lent.{PrincipalsFit}
+use Rattle.runs.specs.Promises.{key-means}
 use Rattle.rows.specs.Promises.{rows-at}
 use Rattle.exchange.specs.declared.call.Call.{Call}
 use Rattle.exchange.specs.declared.call.Call.the-variants as calls
@@ -89,14 +86,6 @@ record Stands (t : Tables) (r : ℕ) (own : Row) : Type 0 where
 
 meets : {t : Tables} {r : ℕ} {own : Row} {role : Role} {stage : Stage} → Stands t r own → isAt own role stage ≡ true → Meets t r role stage
 meets {role = role} {stage = stage} s h = record { below = s .below; at = ap (λ (x : Row). isAt x role stage) (s .is) ∙ h }
-
--- ---- a server's key, which is a term
-
-key-means : {n : ℕ} {ts : List ℕ} {count k : ℕ} → Terms n ts count → k ≤ 95 → (s : KeyStands ts count k) → messageAt ts (s .place) ≡ key (session k)
-key-means {ts = ts} {k = k} v h s =
-    message-at v (s .place) (s .below)
-    ∙ ap (λ (w : ℕ). messageOf (messageAt ts) (termOf w)) (s .here)
-    ∙ ap (messageOf (messageAt ts)) (term-back (SessionKey k) (omega arith))
 
 -- ---- the acts, with the run's values as its row has them, and the clock and the number of the next run as the tables have them
 

@@ -35,13 +35,12 @@ use Rattle.realm.specs.declared.header.Realm as realms
 use Rattle.realm.specs.New.{Lends, opened-is, new-together}
 use Rattle.realm.specs.Opening.{header, newRealm, openingOf}
 use Rattle.realm.specs.Tables.{Tables, Together}
-use Rattle.decisions.specs.declared.Effect.{Effect}
 use Rattle.decisions.specs.declared.Verdict.{Verdict}
 use Rattle.decisions.specs.declared.Verdict.the-variants as verdicts
 use Rattle.decisions.specs.Decision.{decision}
 use Rattle.decisions.specs.Laws.Verdict.{decision-takes}
 use Rattle.effects.specs.Apply.{applied}
-use Rattle.simulation.specs.Taken.{refused-agrees, step-act, step-taken, step-agrees, adding-taken, adding-agrees}
+use Rattle.simulation.specs.Taken.{refused-agrees, step-taken, step-agrees, adding-taken, adding-agrees}
 use Rattle.simulation.specs.Values.{logged, valuesOf}
 use Rattle.effects.specs.Kept.{ok}
 use Rattle.effects.specs.Call.{adding, withTerm, byVerdict, stepped, called}

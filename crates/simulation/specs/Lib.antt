@@ -15,4 +15,5 @@ pub mod Taken
 pub mod Kept
 pub mod Engine
 pub mod Idle
+pub mod Exact
 pub mod Cases

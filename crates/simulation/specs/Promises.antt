@@ -2,29 +2,35 @@
 -- equations with it. Reading order: Values (tables as the reading has them), Engine (a list of calls from a new realm), Cases (the
 -- paper's lettered cases). How it is shown: Rules (what a step that is taken has met is what the rules ask for), Mirrors (an effect
 -- beside an event), Follows (of writing an effect, over Runs, Entries and Wire), Terms (of adding a term), Taken and Kept (of a call).
+-- The way back, from the rules to the tables, is Back and TermsBack; both ways together are Exact.
 -- Assumes nothing.
 use Prim.Native.Nat.{ℕ}
 use mathlib.Core.Path.{_≡_, subst}
 use mathlib.Core.Bool.{true}
 use mathlib.Core.List.{List, map}
+use mathlib.Core.Logic.{_↔_}
 use lib.ListN.{length, replicate}
 use Rattle.terms.specs.Message.{session, key}
 use Rattle.exchange.specs.declared.call.Call.{Call}
 use Rattle.exchange.specs.declared.call.Call.the-variants.{Step}
-use Rattle.exchange.specs.Calls.{AllSized}
+use Rattle.exchange.specs.Calls.{accepts, Sized, AllSized}
 use Rattle.traces.specs.Engines.{Agrees, after, history}
 use Rattle.traces.specs.Promises.{tables-agree}
 use Rattle.traces.specs.Realm.{Realm, Header}
-use Rattle.traces.specs.RuleSets.{reading}
+use Rattle.traces.specs.RuleSets.{Reading, reading}
 use Rattle.kerberos.specs.Agreement.{Demand3}
+use Rattle.kerberos.specs.Log.{Event, Act}
 use Rattle.kerberos.specs.Messages.{parallel}
 use Rattle.kerberos.specs.Reading.{HD}
+use Rattle.kerberos.specs.Rules.{Takes}
 use Rattle.kerberos.specs.Theorems.{engine-demand3}
 use Rattle.realm.specs.Check.{together, is-together}
 use Rattle.realm.specs.Tables.{Tables, Together}
 use Rattle.effects.specs.Call.{called, checked}
 use Rattle.simulation.specs.Cases.{play, table, cases, cases-start}
-use Rattle.simulation.specs.Engine.{New, engineOf}
+use Rattle.simulation.specs.Engine.{New, Follows, engineOf}
+use Rattle.simulation.specs.Exact as exact
+use Rattle.simulation.specs.Exact.{Takable, toldOf}
 use Rattle.simulation.specs.Idle as idle
 use Rattle.simulation.specs.Values.{valuesOf}
 
@@ -37,6 +43,15 @@ demand3 R t new cs size =
 pub tables-follow : (R : Realm) (t : Tables) (new : New R t) (cs : List Call) → AllSized cs
     → Agrees HD R (valuesOf (after HD R (engineOf R t new) cs)) (reading HD (history HD R (engineOf R t new) cs))
 tables-follow R t new cs size = tables-agree HD R (engineOf R t new) cs size
+
+-- Where the tables follow a reading, a call is accepted exactly where the rules take it, and a step's answer tells the run of its
+-- event.
+pub accepted-exact : (R : Realm) (t : Tables) (ρ : Reading Event) → Follows R t ρ → (c : Call) → Sized c → (accepts (called t c .answer) ≡ true) ↔ Takable R ρ c
+accepted-exact R t ρ f c size = exact.accepted-exact t ρ f c size
+
+pub step-answer : (R : Realm) (t : Tables) (ρ : Reading Event) → Follows R t ρ → (step r a b m now : ℕ) {act : Act}
+    → Takes parallel R (ρ .terms) (ρ .log) (Step step r a b m now) act → called t (Step step r a b m now) .answer ≡ toldOf (act .0)
+step-answer R t ρ f step r a b m now k = exact.step-answer t ρ f step r a b m now k
 
 -- "10 is met only by a library caller": on tables that hold together the checked call is the call.
 pub ten-unmet : (t : Tables) (c : Call) → Together t → checked t c ≡ called t c

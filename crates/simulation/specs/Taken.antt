@@ -1,9 +1,9 @@
 -- A call that is taken, or refused: what the definitions of the crates below decide and write is what the rules of the exchange take
 -- and its reading holds.
 -- Assumes nothing.
-use Prim.Native.Nat.{ℕ, _^_, _<_}
+use Prim.Native.Nat.{ℕ}
 use mathlib.Core.Bool.{true, false}
-use mathlib.Core.List.{List, [], _∷_}
+use mathlib.Core.List.{List, _∷_}
 use mathlib.Core.Path.{_≡_, sym, subst}
 use Rattle.words.specs.Word.{packed}
 use Rattle.terms.specs.Add.{addOf}
@@ -17,7 +17,7 @@ use Rattle.traces.specs.Engines as engines
 use Rattle.traces.specs.Engines.{Agrees}
 use Rattle.traces.specs.Realm.{Realm}
 use Rattle.traces.specs.RuleSets.{Reading, read}
-use Rattle.kerberos.specs.Log.{Event, Nothing, Act, idle}
+use Rattle.kerberos.specs.Log.{Event, Act, idle}
 use Rattle.kerberos.specs.Messages.{parallel}
 use Rattle.kerberos.specs.Reading.{HD}
 use Rattle.kerberos.specs.Rules as rules

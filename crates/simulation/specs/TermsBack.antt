@@ -1,22 +1,22 @@
 -- A TM that the rules take is accepted: its word passes 4, 5 and 6, and 20 is not given, since a term that is not there is a message
 -- that is not there.
 -- Assumes nothing.
-use Prim.Native.Nat.{ℕ, zero, suc, _+_, _<_, _≤_}
-use mathlib.Core.Path.{_≡_, refl, sym, ap, ap₂, _∙_, subst}
+use Prim.Native.Nat.{ℕ, zero, suc, _<_, _≤_}
+use mathlib.Core.Path.{_≡_, refl, sym, ap, ap₂, _∙_}
 use mathlib.Core.Bool.{Bool, true, false}
-use mathlib.Core.List.{List, [], _∷_, _++_}
+use mathlib.Core.List.{List, [], _∷_}
 use mathlib.Core.Option.{Option, none, some}
 use native.Mathlib.Omega.{arith}
 use borrow.Author.Tests.{eq-eqb, eqb-true}
 use lib.Dec.{eqb}
-use lib.ListN.{length, getD, set, length-append}
+use lib.ListN.{length, set, length-append}
 use Rattle.words.specs.Word as words
 use Rattle.words.specs.Word.{packed, termBy, wordOf}
 use Rattle.terms.specs.declared.table.Found.{Found}
 use Rattle.terms.specs.declared.table.Found.the-variants as found
 use Rattle.terms.specs.Add.{addBy, addOf}
 use Rattle.terms.specs.Choice.{pick}
-use Rattle.terms.specs.Meaning.{keyOf, messageOf, messageAt, message-at, key-at, key-inv}
+use Rattle.terms.specs.Meaning.{messageOf, messageAt, message-at, key-at, key-inv}
 use Rattle.terms.specs.Message.{Key, Message, principal, time, nonce, key, pair, encrypted}
 use Rattle.terms.specs.Number.{wordIn, numberIn, word-of, word-at, number-at, termsOf, terms-length, terms-agree, terms-list, terms-message}
 use Rattle.terms.specs.Outcome as terms
@@ -88,18 +88,16 @@ module _ {n : ℕ} {ts : List ℕ} {count : ℕ} (v : Valid n ts count) where
   passing (suc (suc (suc (suc (suc (suc (suc kind))))))) x y f e = no-message e
 
   module _ (kind x y : ℕ) (size : Sized (Term kind x y)) {m : Message} (fit : FieldsFit n kind x y) (made : termOf (meanings ts count) kind x y ≡ some m) where
-    w : ℕ
+    abbrev w : ℕ
     w = packed kind x y
 
     p : Passing kind x y
     p = passing kind x y fit made
 
     by-term : words.termOf w ≡ termBy kind x y
-    unfolding w
     by-term = word-term kind x y (size .1) (size .2)
 
     word-passes : Passed n ts count w
-    unfolding w
     word-passes =
         let right : words.rightOf (packed kind x y) ≡ y = omega (arith, size .2) in
         record {
@@ -116,10 +114,9 @@ module _ {n : ℕ} {ts : List ℕ} {count : ℕ} (v : Valid n ts count) where
         same-message (sym made ∙ by-kind n ts count (meanings ts count) (messageAt ts) (λ k h. meanings-at ts count k h) (λ k h q. key-at (v .terms) k h q) kind x y (p .fine))
 
     own : (k : ℕ) → k < count → numberIn (termsOf ts count) (messageAt ts k) ≡ k
-    own k h = ap (numberIn (termsOf ts count)) (terms-message v k h) ∙ number-at (terms-list v) k (omega (arith, terms-length v))
+    own k h = ap (numberIn (termsOf ts count)) (terms-message v k h) ∙ number-at (termsOf ts count) (terms-list v) k (omega (arith, terms-length v))
 
     word-is : wordIn (termsOf ts count) m ≡ w
-    unfolding w
     word-is =
         ap (wordIn (termsOf ts count)) means
         ∙ word-of n ts (termsOf ts count) count (messageAt ts) own (λ k h q. key-at (v .terms) k h q) (termBy kind x y) (p .fine)

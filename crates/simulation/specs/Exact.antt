@@ -1,0 +1,159 @@
+-- A call is accepted exactly where the rules take it, and its answer tells the run that its event opened or names. So no condition of
+-- a rule could be dropped or added.
+-- Assumes nothing.
+use Prim.Native.Nat.{ℕ, _≤_}
+use mathlib.Core.Path.{_≡_, refl, sym, ap, _∙_, subst}
+use mathlib.Core.Bool.{Bool, true, false}
+use mathlib.Core.List.{List}
+use mathlib.Core.Logic.{_↔_}
+use mathlib.Core.Option.{some}
+use native.Mathlib.Omega.{arith}
+use lib.Dec.{leb}
+use lib.ListN.{length}
+use Rattle.words.specs.Word.{packed}
+use Rattle.terms.specs.Add.{addOf}
+use Rattle.terms.specs.Choice.{pick}
+use Rattle.terms.specs.Message.{Message}
+use Rattle.terms.specs.Number.{termsOf}
+use Rattle.messages.specs.Lent.{over}
+use Rattle.messages.specs.Listed.{insert}
+use Rattle.messages.specs.Meanings.{meanings}
+use Rattle.sending.specs.Promises.{send-fits}
+use Rattle.sending.specs.Send.{sent, refused, enteredAll, markedAll, fitsIn, sendOf}
+use Rattle.exchange.specs.declared.call.Answer.{Answer}
+use Rattle.exchange.specs.declared.call.Answer.the-variants.{OkRun, Ok}
+use Rattle.exchange.specs.declared.call.Call.{Call}
+use Rattle.exchange.specs.declared.call.Call.the-variants as calls
+use Rattle.exchange.specs.Calls.{accepts, Sized}
+use Rattle.traces.specs.Engines.{Agrees}
+use Rattle.traces.specs.Realm.{Realm}
+use Rattle.traces.specs.RuleSets.{Reading}
+use Rattle.traces.specs.Terms.{TermsFit, termOf}
+use Rattle.kerberos.specs.Log.{Event, Initiate, Respond, Issue, Authenticate, Accept, Finish, Tick, Purge, Leak, Nothing, Act}
+use Rattle.kerberos.specs.Messages.{parallel}
+use Rattle.kerberos.specs.Reading.{HD, actOf}
+use Rattle.kerberos.specs.Rules.{Takes, takes-term}
+use Rattle.realm.specs.declared.input.Step.{Step}
+use Rattle.realm.specs.Opening.{header}
+use Rattle.realm.specs.Tables.{Tables, Together}
+use Rattle.decisions.specs.declared.Effect.{Effect}
+use Rattle.decisions.specs.declared.Verdict.the-variants as verdicts
+use Rattle.decisions.specs.Decision.{decision}
+use Rattle.decisions.specs.Effects.{messagesOf}
+use Rattle.decisions.specs.Laws.Exact.{took-decided}
+use Rattle.decisions.specs.Laws.Fits.{took-fits}
+use Rattle.decisions.specs.Laws.Took.{Took, took1, took2, took3, took4, took5, took6, took7, took8, took9, took10}
+use Rattle.effects.specs.Apply.{answerOf, applied}
+use Rattle.effects.specs.Call.{numbered, stepped, called}
+use Rattle.simulation.specs.Back.{takes-took, takes-fits}
+use Rattle.simulation.specs.Engine.{Follows, call-takes}
+use Rattle.simulation.specs.TermsBack.{term-accepted}
+use Rattle.simulation.specs.Values.{valuesOf}
+
+-- "`ok` and the run opened by steps 1 to 3 or named in steps 4, 5, 6 and 9, else `-`"
+abbrev pub toldOf : Event → Answer
+toldOf (Initiate r a b) = OkRun r
+toldOf (Respond r a b) = OkRun r
+toldOf (Issue r a b ts n) = OkRun r
+toldOf (Authenticate r a b k ts ta) = OkRun r
+toldOf (Accept r a b k ts ta) = OkRun r
+toldOf (Finish r a b k ts ta) = OkRun r
+toldOf (Tick t) = Ok
+toldOf (Purge b) = Ok
+toldOf (Leak r) = OkRun r
+toldOf Nothing = Ok
+
+took-told : {t : Tables} {c : Call} {e : Event} {x : Effect} → Took t c e x → answerOf (x .names) ≡ toldOf e
+took-told (took1 p l) = refl
+took-told (took2 p l) = refl
+took-told (took3 d p l) = refl
+took-told (took4 v d i) = refl
+took-told (took5 v d i) = refl
+took-told (took6 v d i) = refl
+took-told (took7 h) = refl
+took-told (took8 h) = refl
+took-told (took9 v) = refl
+took-told (took10 d) = refl
+
+-- what was sent fits
+sent-fits : (b : Bool) (c : ℕ) (us vs ts ws : List ℕ) {k : ℕ} {ts′ ws′ : List ℕ} → pick b (sent c us vs) (refused 20 ts ws) ≡ sent k ts′ ws′ → b ≡ true
+sent-fits true c us vs ts ws e = refl
+sent-fits false c us vs ts ws e = let z : _≡_ {A = ℕ} 0 1 = cc in absurd (omega arith)
+
+module _ {t : Tables} (w : Together t) where
+  -- terms that fit by the rules fit in the table
+  room : (x : Effect) {c : Call} {e : Event} → Took t c e x → {terms : List Message} → meanings (t .terms) (t .realm .terms) ≡ terms
+      → TermsFit (messagesOf (x .sends)) terms → fitsIn (t .terms) (t .realm .terms) (messagesOf (x .sends)) ≡ true
+  unfolding sendOf
+  room x k same fit =
+      let xs = enteredAll (termsOf (t .terms) (t .realm .terms)) (messagesOf (x .sends)) in
+      sent-fits (leb (length xs) 512) (length xs) (over xs (t .terms)) (markedAll (t .wire) xs (messagesOf (x .sends))) (t .terms) (t .wire)
+      (send-fits (t .realm .n) (omega (arith, w .header-fits .most)) (w .terms-hold) (t .wire) (messagesOf (x .sends)) (took-fits t w k .writes)
+      (subst (TermsFit (messagesOf (x .sends))) (sym same) fit))
+
+  module _ (ρ : Reading Event) (a : Agrees HD (header (t .realm)) (valuesOf t) ρ) where
+    -- a step that the rules take is decided so,
+    step-decided : (s : Step) {act : Act} → Takes parallel (header (t .realm)) (ρ .terms) (ρ .log) (calls.Step (s .step) (s .run) (s .a) (s .b) (s .m) (s .t)) act
+        → (x : Effect) × (decision t s ≡ verdicts.Takes x) × (answerOf (x .names) ≡ toldOf (act .0))
+    unfolding decision
+    step-decided s {act} k =
+        let met = takes-took t ρ w a k in
+        let x = met .effect in
+        let fit = room x (met .took) (a .terms-are) (subst (λ (ms : List Message). TermsFit ms (ρ .terms)) (sym (met .sends)) (takes-fits t ρ w a k)) in
+        (x, rw (took-decided t w s (met .took), fit), took-told (met .took))
+
+    -- and accepted, with the answer of its event;
+    pub step-accepted : (s : Step) {act : Act} → Takes parallel (header (t .realm)) (ρ .terms) (ρ .log) (calls.Step (s .step) (s .run) (s .a) (s .b) (s .m) (s .t)) act
+        → stepped t s .answer ≡ toldOf (act .0)
+    unfolding stepped applied
+    step-accepted s k = let d = step-decided s k in rw (d .1) (d .2)
+
+    -- so is a term.
+    term-taken : (kind x y : ℕ) → Sized (calls.Term kind x y) → {act : Act} → Takes parallel (header (t .realm)) (ρ .terms) (ρ .log) (calls.Term kind x y) act
+        → accepts (numbered (addOf (t .realm .n) (t .terms) (t .realm .terms) (packed kind x y) .answer)) ≡ true
+    term-taken kind x y size (takes-term {m = m} fields made fit) =
+        term-accepted (w .terms-hold) kind x y size fields (subst (λ (l : List Message). termOf l kind x y ≡ some m) (sym (a .terms-are)) made)
+        (subst (λ (l : List Message). length (insert m l) ≤ 512) (sym (a .terms-are)) fit)
+
+told-accepts : (e : Event) → accepts (toldOf e) ≡ true
+told-accepts (Initiate r a b) = refl
+told-accepts (Respond r a b) = refl
+told-accepts (Issue r a b ts n) = refl
+told-accepts (Authenticate r a b k ts ta) = refl
+told-accepts (Accept r a b k ts ta) = refl
+told-accepts (Finish r a b k ts ta) = refl
+told-accepts (Tick t) = refl
+told-accepts (Purge b) = refl
+told-accepts (Leak r) = refl
+told-accepts Nothing = refl
+
+-- ---- any call
+
+-- what the rules take a call for
+pub record Takable (R : Realm) (ρ : Reading Event) (c : Call) : Type 0 where
+  pub act : Act
+  pub takes : Takes parallel R (ρ .terms) (ρ .log) c act
+
+module _ {R : Realm} (t : Tables) (ρ : Reading Event) (f : Follows R t ρ) where
+  there : (c : Call) → Sized c → accepts (called t c .answer) ≡ true → Takable R ρ c
+  there c size e = record { act = actOf parallel c ρ; takes = call-takes t ρ c size f e }
+
+  own : Agrees HD (header (t .realm)) (valuesOf t) ρ
+  own = subst (λ (R : Realm). Agrees HD R (valuesOf t) ρ) (sym (f .header-is)) (f .agrees)
+
+  by-own : (c : Call) {act : Act} → Takes parallel R (ρ .terms) (ρ .log) c act → Takes parallel (header (t .realm)) (ρ .terms) (ρ .log) c act
+  by-own c {act} k = subst (λ (R : Realm). Takes parallel R (ρ .terms) (ρ .log) c act) (sym (f .header-is)) k
+
+  pub step-answer : (step r a b m now : ℕ) {act : Act} → Takes parallel R (ρ .terms) (ρ .log) (calls.Step step r a b m now) act
+      → called t (calls.Step step r a b m now) .answer ≡ toldOf (act .0)
+  unfolding called
+  step-answer step r a b m now k =
+      step-accepted (f .together) ρ own (record { step = step; run = r; a = a; b = b; m = m; t = now }) (by-own (calls.Step step r a b m now) k)
+
+  back : (c : Call) → Sized c → Takable R ρ c → accepts (called t c .answer) ≡ true
+  unfolding called
+  back (calls.Term kind x y) size k = term-taken (f .together) ρ own kind x y size (by-own (calls.Term kind x y) (k .takes))
+  back (calls.Step step r a b m now) size k = ap accepts (step-answer step r a b m now (k .takes)) ∙ told-accepts (k .act .0)
+
+  pub accepted-exact : (c : Call) → Sized c → (accepts (called t c .answer) ≡ true) ↔ Takable R ρ c
+  accepted-exact c size = (there c size, back c size)
