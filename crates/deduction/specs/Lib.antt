@@ -6,4 +6,3 @@ pub mod Public
 pub mod Synth
 pub mod Known
 pub mod Opens
-pub mod Cases

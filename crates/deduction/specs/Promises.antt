@@ -3,7 +3,6 @@
 -- Assumes nothing.
 use Prim.Native.Nat.{ℕ}
 use Rattle.terms.specs.Message.{Key, longTerm, session, Message}
-use Rattle.deduction.specs.Cases as cases
 use Rattle.deduction.specs.Derives.{Own, Bad, Derives}
 use Rattle.deduction.specs.Secrecy.{Guarded, guarded, derives-more}
 
@@ -18,7 +17,3 @@ pub secrecy : (n flags : ℕ) (Wire : Message → Type 0) (Secret : Key → Type
     → ((p : ℕ) → Bad n flags p → ¬ (Secret (longTerm p)))
     → {m : Message} → Derives n flags Wire m → Guarded Secret Issued m
 secrecy n flags Wire Secret Issued safe notOwn notBad d = guarded n flags Wire Secret Issued safe notOwn notBad d
-
--- Cases E, G, H and I of document 01.
-pub lettered : cases.Cases
-lettered = cases.cases

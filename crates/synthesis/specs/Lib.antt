@@ -5,4 +5,3 @@ pub mod Saturate
 pub mod Compose
 pub mod Test
 pub mod Lent
-pub mod Cases

@@ -9,7 +9,6 @@ use Rattle.marks.specs.Marks.{Words}
 use Rattle.terms.specs.Choice.{Decides}
 use Rattle.terms.specs.Valid.{Valid}
 use Rattle.deduction.specs.Known.{Derivable, Filled}
-use Rattle.synthesis.specs.Cases as cases
 use Rattle.synthesis.specs.Compose.{ComposedIs}
 use Rattle.synthesis.specs.Test.{decided, derivableOf, test-decides, derivable-is}
 
@@ -27,7 +26,3 @@ function-exact flags v w t h = test-decides flags v w t h
 pub function-unique : (flags : ℕ) {n : ℕ} {ts : List ℕ} {count : ℕ} (v : Valid n ts count) {ws : List ℕ} → Words 8 ws → (t : ℕ) → t < count
     → (r : Bool) → Decides r (Derivable n flags ts count ws t) → r ≡ derivableOf flags ts count ws t
 function-unique flags v w t h r d = derivable-is flags v w t h r d
-
--- Cases E, G, H and I of document 01 by the function, computed.
-pub lettered : cases.Tested
-lettered = cases.tested
