@@ -15,5 +15,6 @@ pub mod Taken
 pub mod Kept
 pub mod Engine
 pub mod Idle
+pub mod Unread
 pub mod Exact
 pub mod Cases
