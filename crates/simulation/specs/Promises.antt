@@ -32,6 +32,7 @@ use Rattle.simulation.specs.Engine.{New, Follows, engineOf}
 use Rattle.simulation.specs.Exact as exact
 use Rattle.simulation.specs.Exact.{Takable, toldOf}
 use Rattle.simulation.specs.Idle as idle
+use Rattle.simulation.specs.Unread.{Alike, answers-alike, tables-alike}
 use Rattle.simulation.specs.Values.{valuesOf}
 
 -- Demand 3 holds of every list of calls, each with any fields, from a new realm under any header that refusal 2 lets pass.
@@ -65,6 +66,13 @@ query-kept t w r a b m now = idle.query-kept t w r a b m now
 -- and a leak of a key that is on the wire changes nothing: "leaking it again changes nothing".
 pub leak-kept : (t : Tables) → Together t → (r a b m now : ℕ) → valuesOf t .wire (key (session r)) → called t (Step 9 r a b m now) .tables ≡ t
 leak-kept t w r a b m now k = idle.leak-kept t w r a b m now k
+
+-- "Places at or past a table's count are never read": tables that are alike below the counts have the same answer, and stay alike.
+pub unread-answers : (t u : Tables) → Together t → Together u → Alike t u → (c : Call) → called t c .answer ≡ called u c .answer
+unread-answers t u w w′ a c = answers-alike t u w w′ a c
+
+pub unread-tables : (t u : Tables) → Together t → Together u → Alike t u → (c : Call) → Alike (called t c .tables) (called u c .tables)
+unread-tables t u w w′ a c = tables-alike t u w w′ a c
 
 -- F and the lettered cases come out as the paper says, from tables that hold together.
 pub lettered : (map play table ≡ map (λ c. c .says) table) × (map (λ c. together (c .start)) table ≡ replicate (length table) true)

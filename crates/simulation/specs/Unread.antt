@@ -1,17 +1,18 @@
 -- "Places at or past a table's count are never read": tables that are alike below the counts have the same answer to a call, and are
 -- alike after it.
 -- Assumes nothing.
-use Prim.Native.Nat.{ℕ, zero, suc, _<_}
+use Prim.Native.Nat.{ℕ, zero, suc, _<_, _≤_}
 use mathlib.Core.Path.{_≡_, refl, sym, ap, ap₂, subst, _∙_}
 use mathlib.Core.Bool.{Bool, true, false, not, _&&_}
 use mathlib.Core.List.{List, [], _∷_, _++_}
 use mathlib.Core.Option.{some}
 use native.Mathlib.Nat.{le-refl}
+use native.Mathlib.Numerals.{add-one}
 use native.Mathlib.Omega.{arith}
 use borrow.Author.Tests.{eqb-true, eqb-false}
 use lib.Dec.{leb, eqb}
-use lib.ListN.{length, getElem?, getD, set, length-set}
-use lib.Seq.{take-suc, take-set-le, getD-set-same}
+use lib.ListN.{length, getElem?, getD, set, drop, length-set}
+use lib.Seq.{take-suc, take-set-le, take-append-seam, getD-set-same}
 use Rattle.words.specs.Word.{packed}
 use Rattle.terms.specs.declared.table.Found.{Found}
 use Rattle.terms.specs.declared.table.Found.the-variants.{At, Nothing}
@@ -30,7 +31,7 @@ use Rattle.deduction.specs.Known.{Known, Derivable}
 use Rattle.deduction.specs.Promises.{monotone}
 use Rattle.synthesis.specs.Promises.{function-exact, function-unique}
 use Rattle.synthesis.specs.Test.{derivableOf}
-use Rattle.sending.specs.Send.{enteredAll}
+use Rattle.sending.specs.Send.{enteredAll, markedAll}
 use Rattle.exchange.specs.declared.run.Row.{Row}
 use Rattle.exchange.specs.declared.call.Call.{Call}
 use Rattle.exchange.specs.declared.call.Call.the-variants as calls
@@ -44,10 +45,13 @@ use Rattle.forms.specs.declared.Request.the-variants as requests
 use Rattle.forms.specs.Delivery.{deliveryIn}
 use Rattle.forms.specs.declared.Delivery.{Delivery}
 use Rattle.forms.specs.declared.Delivery.the-variants as deliveries
-use Rattle.replay.specs.Cache.{present, entries}
+use Rattle.replay.specs.Cache.{present, kept, entries}
+use Rattle.replay.specs.Cache.Places.{written-entries}
 use Rattle.replay.specs.declared.entry.Entry.{Entry}
+use Rattle.replay.specs.declared.entry.Purge.{Purge}
 use Rattle.rows.specs.Rows.{rowsOf}
-use Rattle.rows.specs.Promises.{rows-at}
+use Rattle.rows.specs.Promises.{rows-at, writes}
+use Rattle.rows.specs.Row.{Fits}
 use Rattle.rows.specs.Runs.{runAt}
 use Rattle.realm.specs.declared.header.Realm.{Realm}
 use Rattle.realm.specs.declared.input.Step.{Step}
@@ -55,14 +59,23 @@ use Rattle.realm.specs.Fields.{Range, in-range}
 use Rattle.realm.specs.Input.{usesTable, usesOf, inputRefusal, passed}
 use Rattle.realm.specs.Tables.{Tables, tables, Together}
 use Rattle.conditions.specs.Conditions.{derivableAt, ticketLives, authenticatorLives, admission}
+use Rattle.decisions.specs.declared.Change.{Change}
+use Rattle.decisions.specs.declared.Change.the-variants as changes
 use Rattle.decisions.specs.declared.Effect.{Effect}
+use Rattle.decisions.specs.declared.Keeping.{Keeping}
+use Rattle.decisions.specs.declared.Keeping.the-variants.{Same, Remember, Forget}
 use Rattle.decisions.specs.declared.Verdict.{Verdict}
 use Rattle.decisions.specs.declared.Verdict.the-variants.{Takes, Refused}
 use Rattle.decisions.specs.Decision.{need, onRequest, issues, onReply, authenticates, onDelivery, takes, onConfirmation, finishes}
 use Rattle.decisions.specs.Decision.{roomForRun, named, opensRun, ticks, queries, stepOf, decided, roomed, decision}
 use Rattle.decisions.specs.Effects.{issuing, authenticating, accepting, finishing, nothing, leaking, messagesOf}
-use Rattle.effects.specs.Apply.{applied}
-use Rattle.effects.specs.Call.{numbered, byVerdict, stepped, called}
+use Rattle.decisions.specs.Laws.Fits.{RowFits, RowReady}
+use Rattle.decisions.specs.Laws.Verdict.{decision-takes}
+use Rattle.decisions.specs.Promises.{taken-fits}
+use Rattle.effects.specs.Apply.{realmAfter, applied}
+use Rattle.effects.specs.Cache.{cacheOf}
+use Rattle.effects.specs.Call.{withTerms, numbered, byVerdict, stepped, called}
+use Rattle.effects.specs.Row.{changed, runCount}
 
 -- ---- definitions
 
@@ -273,6 +286,75 @@ module _ (h : Realm) {ts ts′ rs rs′ : List ℕ} (ws : List ℕ) {c c′ : Li
   unfolding stepped
   step-answer s = ap (λ (v : Verdict). byVerdict one v .answer) (decision-same s) ∙ verdict-answer (decision other s)
 
+  -- ---- the tables after a step
+
+  abbrev xs : List Message → List ℕ
+  xs ms = enteredAll (termsOf ts (h .terms)) ms
+
+  abbrev xs′ : List Message → List ℕ
+  xs′ ms = enteredAll (termsOf ts′ (h .terms)) ms
+
+  entered-same : (ms : List Message) → xs ms ≡ xs′ ms
+  entered-same ms = ap (λ (l : List ℕ). enteredAll l ms) same-terms
+
+  byte-row : {ms : List Message} {r : ℕ} {x : Row} → RowFits (h .n) ms r x → Fits x
+  byte-row f =
+      let p = f .principals in
+      let small : h .n ≤ 256 = omega (arith, w .header-fits .most) in
+      record { a = omega (arith, p .a-below); b = omega (arith, p .b-below); k = omega (arith, f .key) }
+
+  changed-same : (ms : List Message) (x : Change) → RowReady one ms x
+      → rowsOf (changed (h .runs) x rs) (runCount (h .runs) x) ≡ rowsOf (changed (h .runs) x rs′) (runCount (h .runs) x)
+  changed-same ms (changes.Open x) f =
+      rw (add-one (h .runs))
+      (writes rs (w .rows-hold .size) (h .runs) (f .0) x (byte-row (f .1)) .opened
+      ∙ ap (λ (l : List Row). l ++ (x ∷ [])) same-rows
+      ∙ sym (writes rs′ (w′ .rows-hold .size) (h .runs) (f .0) x (byte-row (f .1)) .opened))
+  changed-same ms (changes.Set r x) f =
+      let l : r < 64 = omega (arith, f .0, w .rows-hold .room) in
+      writes rs (w .rows-hold .size) r l x (byte-row (f .1)) .replaced (h .runs) (f .0)
+      ∙ ap (λ (l : List Row). set l r x) same-rows
+      ∙ sym (writes rs′ (w′ .rows-hold .size) r l x (byte-row (f .1)) .replaced (h .runs) (f .0))
+  changed-same ms changes.Nothing f = same-rows
+
+  kept-count : (x : Keeping) → cacheOf h c x .count ≡ cacheOf h c′ x .count
+  kept-count Same = refl
+  kept-count (Remember e) = ap (λ (l : List Entry). length (l ++ (e ∷ []))) same-entries
+  kept-count (Forget b) = ap (λ (l : List Entry). length (kept (record { b = b; clock = h .clock; la = h .la }) l)) same-entries
+
+  kept-entries : (x : Keeping) → let p = cacheOf h c x in let q = cacheOf h c′ x in entries (p .places) (p .count) ≡ entries (q .places) (q .count)
+  kept-entries Same = same-entries
+  kept-entries (Remember e) =
+      written-entries c (h .entries) (entries c (h .entries) ++ (e ∷ []))
+      ∙ ap (λ (l : List Entry). l ++ (e ∷ [])) same-entries
+      ∙ sym (written-entries c′ (h .entries) (entries c′ (h .entries) ++ (e ∷ [])))
+  kept-entries (Forget b) =
+      let p : Purge = record { b = b; clock = h .clock; la = h .la } in
+      written-entries c (h .entries) (kept p (entries c (h .entries)))
+      ∙ ap (kept p) same-entries
+      ∙ sym (written-entries c′ (h .entries) (kept p (entries c′ (h .entries))))
+
+  effect-alike : (x : Effect) → RowReady one (messagesOf (x .sends)) (x .change) → Alike (applied one x .tables) (applied other x .tables)
+  unfolding applied
+  effect-alike x f =
+      let ms = messagesOf (x .sends) in
+      record {
+        realm = ap₂ (λ (l : List ℕ) (k : ℕ). realmAfter h (x .clock) (length l) (runCount (h .runs) (x .change)) k) (entered-same ms) (kept-count (x .keeping));
+        terms = take-append-seam (xs ms) (drop (length (xs ms)) ts) ∙ entered-same ms ∙ sym (take-append-seam (xs′ ms) (drop (length (xs′ ms)) ts′));
+        rows = changed-same ms (x .change) f;
+        wire = ap (λ (l : List ℕ). markedAll ws l ms) (entered-same ms);
+        entries = kept-entries (x .keeping);
+      }
+
+  verdict-alike : (s : Step) (v : Verdict) → decision one s ≡ v → Alike (byVerdict one v .tables) (byVerdict other v .tables)
+  verdict-alike s (Refused k) d = record { realm = refl; terms = same-terms; rows = same-rows; wire = refl; entries = same-entries }
+  verdict-alike s (Takes x) d = effect-alike x (taken-fits one s w (decision-takes one s d .0) .row)
+
+  step-alike : (s : Step) → Alike (stepped one s .tables) (stepped other s .tables)
+  unfolding stepped
+  step-alike s =
+      subst (λ (v : Verdict). Alike (byVerdict one (decision one s) .tables) (byVerdict other v .tables)) (decision-same s) (verdict-alike s (decision one s) refl)
+
   -- ---- a term
 
   adding-same : (word : ℕ) → AddsSame (addOf (h .n) ts (h .terms) word) (addOf (h .n) ts′ (h .terms) word)
@@ -284,6 +366,13 @@ module _ (h : Realm) {ts ts′ rs rs′ : List ℕ} (ws : List ℕ) {c c′ : Li
   unfolding called
   one-answer (calls.Term kind l r) = ap numbered (adding-same (packed kind l r) .answer)
   one-answer (calls.Step step r a b m now) = step-answer (fields step r a b m now)
+
+  one-alike : (x : Call) → Alike (called one x .tables) (called other x .tables)
+  unfolding called
+  one-alike (calls.Term kind l r) =
+      let o = adding-same (packed kind l r) in
+      record { realm = ap (withTerms h) (o .count); terms = o .terms; rows = same-rows; wire = refl; entries = same-entries }
+  one-alike (calls.Step step r a b m now) = step-alike (fields step r a b m now)
 
 -- ---- the two tables as they are
 
@@ -311,3 +400,8 @@ pub answers-alike : (t u : Tables) → Together t → Together u → Alike t u �
 answers-alike t u w w′ a c =
     one-answer (t .realm) (t .wire) w (moved-together t u a w′) (moved-terms t u a) (moved-rows t u a) (moved-entries t u a) c
     ∙ ap (λ (x : Tables). called x c .answer) (moved-is t u a)
+
+pub tables-alike : (t u : Tables) → Together t → Together u → Alike t u → (c : Call) → Alike (called t c .tables) (called u c .tables)
+tables-alike t u w w′ a c =
+    subst (λ (x : Tables). Alike (called t c .tables) (called x c .tables)) (moved-is t u a)
+    (one-alike (t .realm) (t .wire) w (moved-together t u a w′) (moved-terms t u a) (moved-rows t u a) (moved-entries t u a) c)
