@@ -26,6 +26,7 @@ use Rattle.effects.specs.Promises as effects
 use Rattle.simulation.specs.Engine.{Follows}
 use Rattle.simulation.specs.Exact.{Takable, toldOf}
 use Rattle.simulation.specs.Promises as simulation
+use Rattle.simulation.specs.Unread.{Alike}
 use Rattle.simulation.specs.Values.{valuesOf}
 use Rattle.calls.specs.Lent.{lentCall}
 use Rattle.calls.specs.Same.{lent-called}
@@ -70,3 +71,14 @@ module _ {R : Realm} {t : Tables} {ρ : Reading Event} (f : Follows R t ρ) wher
   pub step-answer : (step r a b m now : ℕ) {act : Act} → Takes parallel R (ρ .terms) (ρ .log) (Step step r a b m now) act
       → lentCall t (Step step r a b m now) .answer ≡ toldOf (act .0)
   step-answer step r a b m now k = same-answer t (Step step r a b m now) (f .together) ∙ simulation.step-answer R t ρ f step r a b m now k
+
+-- ---- what is not read
+
+module _ (t u : Tables) (t-holds : Together t) (u-holds : Together u) (same : Alike t u) (c : Call) where
+  pub unread-answer : lentCall t c .answer ≡ lentCall u c .answer
+  unread-answer = same-answer t c t-holds ∙ simulation.unread-answers t u t-holds u-holds same c ∙ sym (same-answer u c u-holds)
+
+  pub unread-tables : Alike (lentCall t c .tables) (lentCall u c .tables)
+  unread-tables =
+      subst (λ (x : Tables). Alike x (lentCall u c .tables)) (sym (same-tables t c t-holds))
+      (subst (Alike (called t c .tables)) (sym (same-tables u c u-holds)) (simulation.unread-tables t u t-holds u-holds same c))

@@ -22,9 +22,10 @@ use Rattle.realm.specs.declared.header.Opening.the-variants.{Open}
 use Rattle.realm.specs.declared.header.Realm.{Realm}
 use Rattle.realm.specs.New.{Lends}
 use Rattle.realm.specs.Opening.{header, openingOf}
-use Rattle.realm.specs.Tables.{Tables}
+use Rattle.realm.specs.Tables.{Tables, Together}
 use Rattle.simulation.specs.Engine.{New, opened-new}
 use Rattle.simulation.specs.Exact.{Takable, toldOf}
+use Rattle.simulation.specs.Unread.{Alike}
 use Rattle.simulation.specs.Values.{valuesOf}
 use Rattle.calls.specs.Kept as kept
 use Rattle.calls.specs.Lent.{lentCall}
@@ -36,6 +37,15 @@ use Rattle.calls.specs.Same.{lent-follows, lent-demand3, lent-agrees}
 -- "A refusal is its number alone. State, wire, cache and terms stay unchanged": the realm and every place of every table.
 pub refused-kept : (t : Tables) (c : Call) {k : ℕ} → lentCall t c .answer ≡ Refused k → lentCall t c .tables ≡ t
 refused-kept t c e = kept.refused-kept t c e
+
+-- "Places at or past a table's count are never read": on tables that hold together and are alike below the counts the answer is the
+-- same, and the tables stay alike.
+module _ (t u : Tables) (t-holds : Together t) (u-holds : Together u) (same : Alike t u) (c : Call) where
+  pub unread-answer : lentCall t c .answer ≡ lentCall u c .answer
+  unread-answer = kept.unread-answer t u t-holds u-holds same c
+
+  pub unread-tables : Alike (lentCall t c .tables) (lentCall u c .tables)
+  unread-tables = kept.unread-tables t u t-holds u-holds same c
 
 -- ---- every list of calls from a new realm: what `open_realm` gave, and the caller's own tables, whatever stands in their places
 
