@@ -32,15 +32,17 @@ pub fn decide(
     requires { ⌜ Together (tables h (now terms) (now runs) (now wire) cache) ⌝ }
     ensures { λ r. ⌜ (r .verdict ≡ decision (tables h (now (terms .entry)) (now (runs .entry)) (now (wire .entry)) cache) s) × Planned (tables h (now (terms .entry)) (now (runs .entry)) (now (wire .entry)) cache) (r .verdict) (r .prepared) ⌝ }
 {
-    let nothing = fresh();
     match by_row(h, terms, runs, wire, cache, s) {
-        Verdict::Refused(number) => Decision {
-            verdict: Verdict::Refused(number),
-            prepared: Prepared {
-                plan: nothing,
-                marks: Marks::Nothing,
-            },
-        },
+        Verdict::Refused(number) => {
+            let nothing = fresh();
+            Decision {
+                verdict: Verdict::Refused(number),
+                prepared: Prepared {
+                    plan: nothing,
+                    marks: Marks::Nothing,
+                },
+            }
+        }
         Verdict::Takes(effect) => {
             let sends = effect.sends;
             let prepared = plan_sends(terms, h.terms, sends);

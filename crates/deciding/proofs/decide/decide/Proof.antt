@@ -15,11 +15,8 @@ abbrev lent : tie.Start → Tables
 lent c = tables (c .args .h) (c .args .terms .now) (c .args .runs .now) (c .args .wire .now) (c .args .cache)
 
 -- where the step is taken
-takes : (c : tie.After-effect) → let s = c .before .before .before .before .before .before .before in decided (lent s) (s .args .s) ≡ Takes (c .effect .given .0 .0)
+takes : (c : tie.After-effect) → let s = c .before .before .before .before .before .before in decided (lent s) (s .args .s) ≡ Takes (c .effect .given .0 .0)
 takes c = sym (c .before .before .by-row .ensures) ∙ c .effect .given .1
-
-fresh-requires : tie.Need-fresh-requires
-fresh-requires c κs = search needs
 
 by-row-requires : tie.Need-by-row-requires
 by-row-requires c κs = search needs
@@ -27,24 +24,27 @@ by-row-requires c κs = search needs
 enum-known-number : tie.Need-enum-known-number
 enum-known-number c = search needs
 
+fresh-requires : tie.Need-fresh-requires
+fresh-requires c κs = search needs
+
 enum-known-effect : tie.Need-enum-known-effect
 enum-known-effect c = search needs
 
 plan-sends-requires : tie.Need-plan-sends-requires
-plan-sends-requires c κs = let s = c .before .before .before .before .before .before .before .before in can-send (lent s) (s .args .s) (takes (c .before)) (s .pre)
+plan-sends-requires c κs = let s = c .before .before .before .before .before .before .before in can-send (lent s) (s .args .s) (takes (c .before)) (s .pre)
 
 add-all : tie.Need-add-all
-add-all c = record { fits = omega (arith, c .before .before .before .plan-sends .ensures .few, c .before .before .before .before .before .before .before .before .before .before .before .before .pre .terms-hold .room) }
+add-all c = record { fits = omega (arith, c .before .before .before .plan-sends .ensures .few, c .before .before .before .before .before .before .before .before .before .before .before .pre .terms-hold .room) }
 
 returns : tie.Need-returns
-returns c = let s = c .before .before .before .before .before .before .before .before .before .before .before .before .before in (decision-full (lent s) (s .args .s) (takes (c .before .before .before .before .before .before)) (c .before .before .before .before .plan-sends .ensures) (c .if1 .taken), tt)
+returns c = let s = c .before .before .before .before .before .before .before .before .before .before .before .before in (decision-full (lent s) (s .args .s) (takes (c .before .before .before .before .before .before)) (c .before .before .before .before .plan-sends .ensures) (c .if1 .taken), tt)
 
 returns-2 : tie.Need-returns-2
-returns-2 c = let s = c .before .before .before .before .before .before .before .before in (decision-refused (lent s) (s .args .s) (sym (c .before .before .before .by-row .ensures) ∙ c .before .number .given .1), tt)
+returns-2 c = let s = c .before .before .before .before .before .before .before .before in (decision-refused (lent s) (s .args .s) (sym (c .before .before .before .before .by-row .ensures) ∙ c .before .before .number .given .1), tt)
 
 returns-3 : tie.Need-returns-3
 returns-3 c =
-    let s = c .before .before .before .before .before .before .before .before .before .before .before .before .before in
+    let s = c .before .before .before .before .before .before .before .before .before .before .before .before in
     let p = c .before .before .before .before .plan-sends .ensures in
     (decision-taken (lent s) (s .args .s) (takes (c .before .before .before .before .before .before)) p (c .if1 .left), record { fits = taken-fits (lent s) (s .args .s) (s .pre) (takes (c .before .before .before .before .before .before)); plan = p; room = c .if1 .left })
 
@@ -52,9 +52,9 @@ pub decide-spec : {M : Type 1} → statement M
 decide-spec =
     tie.close
     (tie.spec
-    fresh-requires
     by-row-requires
     enum-known-number
+    fresh-requires
     enum-known-effect
     plan-sends-requires
     add-all
