@@ -1,5 +1,6 @@
 -- What a step comes to, before anything is written. `Effects` has what each row of the step table writes, `Decision` the whole of it:
--- the paper's two tables of refusals, in their order, and the step table. Below is that order, and which refusals there are.
+-- the paper's two tables of refusals, in their order, and the step table. Below: which refusals a step can have, and that it is
+-- taken exactly where it has met what its row asks for.
 -- Assumes nothing.
 use Prim.Native.Nat.{ℕ}
 use mathlib.Core.Path.{_≡_, subst}

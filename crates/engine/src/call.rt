@@ -66,14 +66,16 @@ fn take_step(
 {
     let decision = decide(h, terms, runs, wire, cache, s);
     let verdict = decision.verdict;
-    let prepared = decision.prepared;
     match verdict {
         Verdict::Refused(number) => After {
             realm: h,
             cache,
             answer: Answer::Refused(number),
         },
-        Verdict::Takes(effect) => apply(h, terms, runs, wire, cache, effect, prepared),
+        Verdict::Takes(effect) => {
+            let prepared = decision.prepared;
+            apply(h, terms, runs, wire, cache, effect, prepared)
+        }
     }
 }
 

@@ -41,8 +41,8 @@ fn plan_word(terms: &[u64], count: usize, plan: Plan, word: u64) -> Planned
     ensures { λ r. ⌜ WordPlanned (now (terms .entry)) count plan word (r .number) (r .plan) ⌝ }
 {
     let planned = plan.count;
-    let words = plan.words;
-    if let Found::At(j) = find(&words, planned, word) {
+    let mut next = plan;
+    if let Found::At(j) = find(&next.words, planned, word) {
         return Planned {
             number: (count + j) as u16,
             plan,
@@ -54,7 +54,6 @@ fn plan_word(terms: &[u64], count: usize, plan: Plan, word: u64) -> Planned
             plan,
         };
     }
-    let mut next = plan;
     next.words[planned] = word;
     next.count = planned + 1;
     Planned {

@@ -20,7 +20,7 @@ enum-known-verdict-2 : tie.Need-enum-known-verdict-2
 enum-known-verdict-2 c = search needs
 
 apply-requires : tie.Need-apply-requires
-apply-requires c κs = (c .before .before .before .before .before .before .before .before .before .before .before .before .before .before .pre, writable (lent (c .before .before .before .before .before .before .before .before .before .before .before .before .before .before)) (c .before .before .before .before .verdict2 .given .1) (c .before .before .before .before .before .before .before .decide .ensures .1))
+apply-requires c κs = (c .before .before .before .before .before .before .before .before .before .before .before .before .before .before .pre, writable (lent (c .before .before .before .before .before .before .before .before .before .before .before .before .before .before)) (c .before .before .before .before .before .verdict2 .given .1) (c .before .before .before .before .before .before .before .decide .ensures .1))
 
 same-length : tie.Need-same-length
 same-length c = search needs
@@ -32,7 +32,7 @@ same-length-3 : tie.Need-same-length-3
 same-length-3 c = search needs
 
 returns : tie.Need-returns
-returns c = let s = c .before .before .before .before .before .before .before .before .before .before .before in step-refused (lent s) (s .args .s) (sym (c .before .before .before .before .decide .ensures .0) ∙ c .before .verdict .given .1)
+returns c = let s = c .before .before .before .before .before .before .before .before .before .before in step-refused (lent s) (s .args .s) (sym (c .before .before .before .decide .ensures .0) ∙ c .before .verdict .given .1)
 
 same-length-4 : tie.Need-same-length-4
 same-length-4 c = search needs
@@ -46,7 +46,7 @@ same-length-6 c = search needs
 returns-2 : tie.Need-returns-2
 returns-2 c =
     let s = c .before .before .before .before .before .before .before .before .before .before .before .before .before .before .before .before .before .before .before .before .before in
-    c .before .before .before .before .before .before .apply .ensures ∙ step-taken (lent s) (s .args .s) (sym (c .before .before .before .before .before .before .before .before .before .before .before .before .before .before .decide .ensures .0) ∙ c .before .before .before .before .before .before .before .before .before .before .before .verdict2 .given .1)
+    c .before .before .before .before .before .before .apply .ensures ∙ step-taken (lent s) (s .args .s) (sym (c .before .before .before .before .before .before .before .before .before .before .before .before .before .before .decide .ensures .0) ∙ c .before .before .before .before .before .before .before .before .before .before .before .before .verdict2 .given .1)
 
 pub take-step-spec : {M : Type 1} → statement M
 take-step-spec =

@@ -8,34 +8,31 @@ use borrow.Author.Needs.{needs}
 use Rattle.messages.proofs.plan.plan_word.Statement.{statement}
 use Rattle.messages.proofs.plan.plan_word.Tie as tie
 
-places : (c : tie.After-words2) → length (c .before .before .before .args .plan .words) ≡ 32
+places : (c : tie.After-find-arg2) → length (c .before .before .before .before .args .plan .words) ≡ 32
 places c = search needs
 
-slice-aggregate-find : tie.Need-slice-aggregate-find
-slice-aggregate-find c = search needs
-
 find-requires : tie.Need-find-requires
-find-requires c κs = omega (arith, places c)
+find-requires c κs = search needs
 
 enum-known-j : tie.Need-enum-known-j
 enum-known-j c = search needs
 
-add-t13 : tie.Need-add-t13
-add-t13 c =
-    let a = c .before .before .before .before .before .before .before .args in
+add-t12 : tie.Need-add-t12
+add-t12 c =
+    let a = c .before .before .before .before .before .before .before .before .args in
     let f = found-at (a .plan .words) (a .plan .count) (a .word) (sym (c .before .before .before .find .ensures) ∙ c .before .j .given .1) in
     record { fits = omega (arith, f .0) }
 
-cast-t14 : tie.Need-cast-t14
-cast-t14 c =
-    let a = c .before .before .before .before .before .before .before .args in
+cast-t13 : tie.Need-cast-t13
+cast-t13 c =
+    let a = c .before .before .before .before .before .before .before .before .args in
     let f = found-at (a .plan .words) (a .plan .count) (a .word) (sym (c .before .before .before .find .ensures) ∙ c .before .j .given .1) in
     record { fits = omega (arith, f .0) }
 
 returns : tie.Need-returns
 returns c =
-    let a = c .before .before .before .before .before .before .before .args in
-    planned-before (a .terms .now) (a .count) (a .plan) (a .word) (omega (arith, c .before .before .before .before .before .before .before .pre .0)) (omega (arith, places (c .before .before .before .before))) (sym (c .before .before .before .find .ensures) ∙ c .before .j .given .1)
+    let a = c .before .before .before .before .before .before .before .before .args in
+    planned-before (a .terms .now) (a .count) (a .plan) (a .word) (omega (arith, c .before .before .before .before .before .before .before .before .pre .0)) (omega (arith, places (c .before .before .before .before))) (sym (c .before .before .before .find .ensures) ∙ c .before .j .given .1)
 
 enum-told : tie.Need-enum-told
 enum-told c = search needs
@@ -46,16 +43,16 @@ find-requires-2 c κs = search needs
 enum-known-i : tie.Need-enum-known-i
 enum-known-i c = search needs
 
-cast-t16 : tie.Need-cast-t16
-cast-t16 c =
-    let a = c .before .before .before .before .before .before .before .before .before .before .args in
+cast-t15 : tie.Need-cast-t15
+cast-t15 c =
+    let a = c .before .before .before .before .before .before .before .before .before .before .before .args in
     let f = found-at (a .terms .now) (a .count) (a .word) (sym (c .before .before .before .find2 .ensures) ∙ c .before .i .given .1) in
     record { fits = omega (arith, f .0) }
 
 returns-2 : tie.Need-returns-2
 returns-2 c =
-    let a = c .before .before .before .before .before .before .before .before .before .before .args in
-    in-the-table (a .terms .now) (a .count) (a .plan) (a .word) (omega (arith, c .before .before .before .before .before .before .before .before .before .before .pre .0)) (omega (arith, places (c .before .before .before .before .before .before .before)))
+    let a = c .before .before .before .before .before .before .before .before .before .before .before .args in
+    in-the-table (a .terms .now) (a .count) (a .plan) (a .word) (omega (arith, c .before .before .before .before .before .before .before .before .before .before .before .pre .0)) (omega (arith, places (c .before .before .before .before .before .before .before)))
     (sym (c .before .before .before .before .before .before .find .ensures) ∙ c .before .before .before .before .enum-told .given .1) (sym (c .before .before .before .find2 .ensures) ∙ c .before .i .given .1)
 
 enum-told-2 : tie.Need-enum-told-2
@@ -70,37 +67,36 @@ element-write-next c = search needs
 add-next : tie.Need-add-next
 add-next c = search needs
 
-add-t17 : tie.Need-add-t17
-add-t17 c = search needs
+add-t16 : tie.Need-add-t16
+add-t16 c = search needs
 
-cast-t20 : tie.Need-cast-t20
-cast-t20 c = search needs
+cast-t19 : tie.Need-cast-t19
+cast-t19 c = search needs
 
 returns-3 : tie.Need-returns-3
 returns-3 c =
-    let a = c .before .before .before .before .before .before .before .before .before .args in
-    planned-now (a .terms .now) (a .count) (a .plan) (a .word) (omega (arith, c .before .before .before .before .before .before .before .before .before .pre .0)) (omega (arith, places (c .before .before .before .before .before .before)))
+    let a = c .before .before .before .before .before .before .before .before .before .before .args in
+    planned-now (a .terms .now) (a .count) (a .plan) (a .word) (omega (arith, c .before .before .before .before .before .before .before .before .before .before .pre .0)) (omega (arith, places (c .before .before .before .before .before .before)))
     (sym (c .before .before .before .before .before .find .ensures) ∙ c .before .before .before .enum-told .given .1) (sym (c .before .before .find2 .ensures) ∙ c .enum-told2 .given .1) (omega (arith, places (c .before .before .before .before .before .before)))
 
 pub plan-word-spec : {M : Type 1} → statement M
 plan-word-spec =
     tie.close
     (tie.spec
-    slice-aggregate-find
     find-requires
     enum-known-j
-    add-t13
-    cast-t14
+    add-t12
+    cast-t13
     returns
     enum-told
     find-requires-2
     enum-known-i
-    cast-t16
+    cast-t15
     returns-2
     enum-told-2
     mul-next
     element-write-next
     add-next
-    add-t17
-    cast-t20
+    add-t16
+    cast-t19
     returns-3)
