@@ -2,7 +2,7 @@
 -- of `count` terms.
 -- Assumes nothing.
 use mathlib.Core.Path.{_≡_, refl, ap, ap₂}
-use mathlib.Core.Bool.{Bool, true}
+use mathlib.Core.Bool.{Bool, true, _&&_, and-eq-true-iff}
 use mathlib.Core.List.{List}
 use Prim.Native.Nat.{ℕ, zero, suc, _+_, _<_}
 use native.Mathlib.Decide.{ℕ-discrete}
@@ -18,7 +18,6 @@ use Rattle.drafts.specs.declared.Layer.the-variants as layer
 use Rattle.drafts.specs.declared.Node.{Node}
 use Rattle.drafts.specs.declared.Node.the-variants as node
 use Rattle.words.specs.declared.Term.the-variants.{Principal, Time, Nonce, LongTermKey, SessionKey}
-use Rattle.terms.specs.Choice.{both, both-true, true-both}
 use Rattle.terms.specs.Descend.{descend, descend-at}
 use Rattle.terms.specs.Message.{Key, longTerm, session, Message, principal, time, nonce, key, pair, encrypted}
 use Rattle.words.specs.Word.{wordOf}
@@ -60,13 +59,13 @@ nodeFits n count k (node.Principal p) = ltb p n
 nodeFits n count k (node.Time t) = leb t 4294967295
 nodeFits n count k (node.Nonce i) = leb i 95
 nodeFits n count k (node.Key x) = keyFits n x
-nodeFits n count k (node.Pair l r) = both (ltb l k) (ltb r k)
-nodeFits n count k (node.Encrypted b x) = both (ltb b k) (keyFits n x)
+nodeFits n count k (node.Pair l r) = ltb l k && ltb r k
+nodeFits n count k (node.Encrypted b x) = ltb b k && keyFits n x
 nodeFits n count k (node.Stored i) = ltb i count
 
 unfoldable pub nodesFit : (n count : ℕ) → List Node → ℕ → Bool
 nodesFit n count draft zero = true
-nodesFit n count draft (suc m) = both (nodesFit n count draft m) (nodeFits n count m (nodeAt draft m))
+nodesFit n count draft (suc m) = nodesFit n count draft m && nodeFits n count m (nodeAt draft m)
 
 unfoldable pub draftFits : (n count : ℕ) → List Node → Bool
 draftFits n count draft = nodesFit n count draft 16
@@ -92,7 +91,7 @@ fits-below : (n count : ℕ) (draft : List Node) (m : ℕ) → nodesFit n count 
 unfolding nodesFit
 fits-below n count draft zero e k h = absurd (omega arith)
 fits-below n count draft (suc m) e k h =
-    let b = both-true (nodesFit n count draft m) (nodeFits n count m (nodeAt draft m)) e in
+    let b = and-eq-true-iff (nodesFit n count draft m) (nodeFits n count m (nodeAt draft m)) .0 e in
     by-eq (fits-below n count draft m (b .0) k) (b .1) (ℕ-discrete k m)
   where
     by-eq : (k < m → nodeFits n count k (nodeAt draft k) ≡ true) → nodeFits n count m (nodeAt draft m) ≡ true → Dec (k ≡ m)
@@ -111,7 +110,7 @@ fits-none n count draft = refl
 pub fits-more : (n count : ℕ) (draft : List Node) (m : ℕ) → nodesFit n count draft m ≡ true → nodeFits n count m (nodeAt draft m) ≡ true
     → nodesFit n count draft (m + 1) ≡ true
 unfolding nodesFit
-fits-more n count draft m e f = rw add-one (true-both (nodesFit n count draft m) (nodeFits n count m (nodeAt draft m)) e f)
+fits-more n count draft m e f = rw add-one (and-eq-true-iff (nodesFit n count draft m) (nodeFits n count m (nodeAt draft m)) .1 (e, f))
 
 pub fits-all : (n count : ℕ) (draft : List Node) → nodesFit n count draft 16 ≡ draftFits n count draft
 unfolding draftFits
@@ -125,10 +124,10 @@ node-same stored n count k (node.Time t) e f g h = refl
 node-same stored n count k (node.Nonce i) e f g h = refl
 node-same stored n count k (node.Key x) e f g h = refl
 node-same stored n count k (node.Pair l r) e f g h =
-    let b = both-true (ltb l k) (ltb r k) e in
+    let b = and-eq-true-iff (ltb l k) (ltb r k) .0 e in
     ap₂ pair (h l (ltb-true l k (b .0))) (h r (ltb-true r k (b .1)))
 node-same stored n count k (node.Encrypted b x) e f g h =
-    ap (λ (m : Message). encrypted m (keyName x)) (h b (ltb-true b k (both-true (ltb b k) (keyFits n x) e .0)))
+    ap (λ (m : Message). encrypted m (keyName x)) (h b (ltb-true b k (and-eq-true-iff (ltb b k) (keyFits n x) .0 e .0)))
 node-same stored n count k (node.Stored i) e f g h = refl
 
 pub draft-at : (stored : ℕ → Message) (n count : ℕ) (draft : List Node) → draftFits n count draft ≡ true → (k : ℕ) → k < 16

@@ -2,7 +2,7 @@
 -- keeps the rules is one, and every message of a draft that fits.
 -- Assumes nothing.
 use mathlib.Core.Path.{_≡_, sym, subst}
-use mathlib.Core.Bool.{true}
+use mathlib.Core.Bool.{true, and-eq-true-iff}
 use mathlib.Core.List.{List}
 use Prim.Native.Nat.{ℕ, zero, suc, _^_, _<_, _≤_}
 use native.Mathlib.Omega.{arith}
@@ -15,7 +15,6 @@ use Rattle.drafts.specs.declared.Node.{Node}
 use Rattle.drafts.specs.declared.Node.the-variants as node
 use Rattle.words.specs.declared.Term.{Term}
 use Rattle.words.specs.declared.Term.the-variants.{Principal, Time, Nonce, LongTermKey, SessionKey, Pair, Encrypted, Unknown}
-use Rattle.terms.specs.Choice.{both-true}
 use Rattle.terms.specs.Meaning.{keyOf, messageOf, messageAt, message-at, key-at}
 use Rattle.terms.specs.Message.{Key, longTerm, session, Message, principal, time, nonce, key, pair, encrypted}
 use Rattle.terms.specs.Rules.{termAt, isKey, Fields}
@@ -76,10 +75,10 @@ node-writes n count k stored sub ws w (node.Time t) e = let h : t ≤ 4294967295
 node-writes n count k stored sub ws w (node.Nonce i) e = leb-true i 95 e
 node-writes n count k stored sub ws w (node.Key x) e = key-writes n x e
 node-writes n count k stored sub ws w (node.Pair l r) e =
-    let b = both-true (ltb l k) (ltb r k) e in
+    let b = and-eq-true-iff (ltb l k) (ltb r k) .0 e in
     (w l (ltb-true l k (b .0)), w r (ltb-true r k (b .1)))
 node-writes n count k stored sub ws w (node.Encrypted b x) e =
-    let c = both-true (ltb b k) (keyFits n x) e in
+    let c = and-eq-true-iff (ltb b k) (keyFits n x) .0 e in
     (w b (ltb-true b k (c .0)), key-writes n x (c .1))
 node-writes n count k stored sub ws w (node.Stored i) e = ws i (ltb-true i count e)
 

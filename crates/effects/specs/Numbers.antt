@@ -1,13 +1,12 @@
 -- No call answers 10: that number is the check's alone, which a library caller meets whose tables do not hold together.
 -- Assumes nothing.
 use Prim.Native.Nat.{ℕ, zero, suc}
-use mathlib.Core.Bool.{Bool, true, false, not, _&&_}
+use mathlib.Core.Bool.{Bool, true, false, not, _&&_, and-eq-true-iff}
 use mathlib.Core.List.{List, [], _∷_}
 use mathlib.Core.Path.{_≡_, refl}
 use borrow.Author.Tests.{eqb-false, eq-eqb}
 use lib.Dec.{ltb, eqb}
 use lib.ListN.{set}
-use Rattle.terms.specs.AllOf.{and-true}
 use Rattle.terms.specs.declared.table.Found.{Found}
 use Rattle.terms.specs.declared.table.Found.the-variants.{At, Nothing}
 use Rattle.terms.specs.Add.{addBy, addOf}
@@ -82,7 +81,7 @@ others k (n ∷ ns) = not (eqb k n) && others k ns
 
 absent : (k : ℕ) (ns : List ℕ) → others k ns ≡ true → ¬ (k ∈ ns)
 absent k (n ∷ ns) e here = no-true (rw (eq-eqb k k refl) at e)
-absent k (n ∷ ns) e (there i) = absent k ns (and-true (not (eqb k n)) (others k ns) e .1) i
+absent k (n ∷ ns) e (there i) = absent k ns (and-eq-true-iff (not (eqb k n)) (others k ns) .0 e .1) i
 
 -- the last column of the table of refusals has no 10
 no-ten : (step : ℕ) → others 10 (allOf step) ≡ true

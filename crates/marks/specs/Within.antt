@@ -1,24 +1,21 @@
 -- A packed set all of whose members are below a bound (document 01, refusal 10: "a wire mark past the last term").
 -- Assumes nothing.
 use mathlib.Core.Path.{_≡_, refl}
-use mathlib.Core.Bool.{Bool, true, false}
+use mathlib.Core.Bool.{Bool, true, false, not, _&&_, and-eq-true-iff}
 use mathlib.Core.List.{List}
 use Prim.Native.Nat.{ℕ, zero, suc, _+_, _*_, _-_, _<_, _≤_}
 use native.Mathlib.Decide.{ℕ-discrete, decLt}
 use native.Mathlib.Omega.{arith}
 use lib.ListN.{length}
+use borrow.Author.Tests.{not-true}
 use Rattle.marks.specs.Marks.{marked, marked-past}
 
 -- ---- definitions
 
-abbrev pub unless : Bool → Bool → Bool
-unless true b = false
-unless false b = b
-
 -- none of the n numbers from k on is in the set
 unfoldable pub clear : List ℕ → (k n : ℕ) → Bool
 clear ws k zero = true
-clear ws k (suc n) = unless (marked ws k) (clear ws (k + 1) n)
+clear ws k (suc n) = not (marked ws k) && clear ws (k + 1) n
 
 -- every member is below the bound
 unfoldable pub within : List ℕ → ℕ → Bool
@@ -26,16 +23,12 @@ within ws bound = clear ws bound (64 * length ws - bound)
 
 -- ---- what the test says
 
-unless-true : (a b : Bool) → unless a b ≡ true → (a ≡ false) × (b ≡ true)
-unless-true true b e = let z : _≡_ {A = ℕ} 0 1 = cc in absurd (omega arith)
-unless-true false b e = (refl, e)
-
 clear-is : (ws : List ℕ) (k n : ℕ) → clear ws k n ≡ true → (i : ℕ) → k ≤ i → i < k + n → marked ws i ≡ false
 unfolding clear
 clear-is ws k zero e i ge lt = absurd (omega arith)
 clear-is ws k (suc n) e i ge lt =
-    let b = unless-true (marked ws k) (clear ws (k + 1) n) e in
-    by-eq (b .0) (λ h. clear-is ws (k + 1) n (b .1) i h (omega arith)) (ℕ-discrete i k)
+    let b = and-eq-true-iff (not (marked ws k)) (clear ws (k + 1) n) .0 e in
+    by-eq (not-true (marked ws k) (b .0)) (λ h. clear-is ws (k + 1) n (b .1) i h (omega arith)) (ℕ-discrete i k)
   where
     by-eq : marked ws k ≡ false → (k + 1 ≤ i → marked ws i ≡ false) → Dec (i ≡ k) → marked ws i ≡ false
     by-eq here later (yes q) = rw q here
@@ -61,7 +54,7 @@ unfolding clear
 is-clear ws bound all k zero ge = refl
 is-clear ws bound all k (suc n) ge = by-mark (marked ws k) refl (is-clear ws bound all (k + 1) n (omega arith))
   where
-    by-mark : (b : Bool) → marked ws k ≡ b → clear ws (k + 1) n ≡ true → unless b (clear ws (k + 1) n) ≡ true
+    by-mark : (b : Bool) → marked ws k ≡ b → clear ws (k + 1) n ≡ true → not b && clear ws (k + 1) n ≡ true
     by-mark true m e = absurd (omega (arith, all k m))
     by-mark false m e = e
 

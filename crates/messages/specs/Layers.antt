@@ -2,7 +2,7 @@
 -- node says of its message.
 -- Assumes nothing.
 use mathlib.Core.Path.{_≡_, refl, sym, ap, ap₂, _∙_, subst}
-use mathlib.Core.Bool.{true}
+use mathlib.Core.Bool.{true, and-eq-true-iff}
 use mathlib.Core.List.{List, [], _∷_}
 use Prim.Native.Nat.{ℕ, zero, suc, _+_, _<_, _≤_}
 use native.Mathlib.Nat.{le-of-suc-le-suc, not-suc-le-zero}
@@ -19,7 +19,6 @@ use Rattle.drafts.specs.declared.Node.the-variants as node
 use Rattle.messages.specs.declared.plan.Plan.{Plan}
 use Rattle.words.specs.declared.Term.the-variants.{Pair, Encrypted}
 use Rattle.drafts.specs.Draft.{keyName, nodeMessage, nodeFits, keyFits, layerOf, wordOfKey}
-use Rattle.terms.specs.Choice.{both-true}
 use Rattle.terms.specs.Message.{Key, Message, key, pair, encrypted}
 use Rattle.terms.specs.Number.{keyWord, wordIn, numberIn}
 use Rattle.terms.specs.Valid.{Terms}
@@ -102,10 +101,10 @@ layer-is n count k stored sub (node.Time t) e = record { enters = λ xs. refl; w
 layer-is n count k stored sub (node.Nonce i) e = record { enters = λ xs. refl; word = λ xs. refl }
 layer-is n count k stored sub (node.Key x) e = record { enters = λ xs. ap (withWord xs) (sym (key-word x)); word = λ xs. sym (key-word x) }
 layer-is n count k stored sub (node.Pair l r) e =
-    let b = both-true (ltb l k) (ltb r k) e in
+    let b = and-eq-true-iff (ltb l k) (ltb r k) .0 e in
     (ltb-true l k (b .0), ltb-true r k (b .1), refl)
 layer-is n count k stored sub (node.Encrypted b x) e =
-    (ltb-true b k (both-true (ltb b k) (keyFits n x) e .0), (keyName x, refl, key-word x))
+    (ltb-true b k (and-eq-true-iff (ltb b k) (keyFits n x) .0 e .0), (keyName x, refl, key-word x))
 layer-is n count k stored sub (node.Stored i) e = (ltb-true i count e, refl)
 
 -- the word of a pair, and of an encryption, of parts that stand at i and j

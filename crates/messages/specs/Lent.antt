@@ -2,7 +2,7 @@
 -- read off `entered`, which knows no limit, and 20 is given exactly where they do not all fit in 512.
 -- Assumes nothing.
 use mathlib.Core.Path.{_≡_, sym, ap, ap₂, _∙_}
-use mathlib.Core.Bool.{true, false}
+use mathlib.Core.Bool.{true, false, _&&_}
 use mathlib.Core.List.{List, _++_, append-nil}
 use Prim.Native.Nat.{ℕ, _+_, _<_, _≤_}
 use native.Mathlib.Omega.{arith}
@@ -14,7 +14,7 @@ use Rattle.messages.specs.declared.lent.Stored.{Stored}
 use Rattle.messages.specs.declared.lent.Stored.the-variants.{At, Refused}
 use Rattle.messages.specs.declared.plan.Plan.{Plan}
 use Rattle.drafts.specs.Draft.{draftMessage, draftFits}
-use Rattle.terms.specs.Choice.{pick, both}
+use Rattle.terms.specs.Choice.{pick}
 use Rattle.terms.specs.Meaning.{messageAt}
 use Rattle.terms.specs.Message.{Message}
 use Rattle.terms.specs.Number.{numberIn, termsOf, terms-list}
@@ -43,7 +43,7 @@ unfoldable pub addMessageOf : (n : ℕ) (ts : List ℕ) (count : ℕ) (draft : L
 addMessageOf n ts count draft root =
     let m = draftMessage (messageAt ts) draft root in
     pick (holds n ts count)
-    (pick (both (ltb root 16) (draftFits n count draft)) (laid (entered (termsOf ts count) m) m count ts) (refuse 6 count ts))
+    (pick (ltb root 16 && draftFits n count draft) (laid (entered (termsOf ts count) m) m count ts) (refuse 6 count ts))
     (refuse 10 count ts)
 
 -- ---- the start of a plan

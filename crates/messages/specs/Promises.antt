@@ -4,7 +4,7 @@
 -- crate `drafts`.
 -- Assumes nothing.
 use mathlib.Core.Path.{_≡_, refl, sym, ap, _∙_}
-use mathlib.Core.Bool.{Bool, true, false}
+use mathlib.Core.Bool.{Bool, true, false, _&&_, and-eq-true-iff}
 use mathlib.Core.List.{List}
 use Prim.Native.Nat.{ℕ, _<_, _≤_}
 use native.Mathlib.Omega.{arith}
@@ -15,7 +15,7 @@ use lib.Seq.{drop-append-seam}
 use Rattle.drafts.specs.declared.Node.{Node}
 use Rattle.drafts.specs.Draft.{draftMessage, draftFits}
 use Rattle.drafts.specs.Writes.{Writes, draft-writes}
-use Rattle.terms.specs.Choice.{pick, both, both-true}
+use Rattle.terms.specs.Choice.{pick}
 use Rattle.terms.specs.Meaning.{messageAt, messages-same}
 use Rattle.terms.specs.Message.{Message}
 use Rattle.terms.specs.Number.{numberIn, termsOf, terms-length, terms-agree, terms-list}
@@ -100,10 +100,10 @@ message-added n small ts count draft root {i} {m} {ts′} e =
     let old = termsOf ts count in
     let xs = entered old message in
     let a =
-    accepted (holds n ts count) (both (ltb root 16) (draftFits n count draft)) (leb (length xs) 512) (numberIn xs message) (length xs) count i m
+    accepted (holds n ts count) (ltb root 16 && draftFits n count draft) (leb (length xs) 512) (numberIn xs message) (length xs) count i m
     (over xs ts) ts ts′ e in
     let v = holds-valid n ts count (a .first) in
-    let b = both-true (ltb root 16) (draftFits n count draft) (a .second) in
+    let b = and-eq-true-iff (ltb root 16) (draftFits n count draft) .0 (a .second) in
     let room : length xs ≤ 512 = leb-true (length xs) 512 (a .third) in
     let E = entered-is small message (draft-writes v draft (b .1) root (ltb-true root 16 (b .0))) old (terms-list v) (omega arith) in
     let at : i ≡ E .number = a .number-is ∙ standing-number (E .extends .terms) (E .stands) in

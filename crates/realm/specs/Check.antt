@@ -3,14 +3,14 @@
 use Prim.Native.Nat.{ℕ, _^_, _<_, _≤_}
 use mathlib.Core.Path.{_≡_, sym, _∙_}
 use borrow.Author.Tests.{le-leb, lt-leb, leb-true, ltb-true, lt-ltb, eq-eqb, ne-eqb, eqb-true}
-use mathlib.Core.Bool.{Bool, true, false, _&&_}
+use mathlib.Core.Bool.{Bool, true, false, _&&_, and-eq-true-iff}
 use mathlib.Core.List.{List}
 use lib.Dec.{ltb, leb, eqb}
 use lib.ListN.{length, getD}
 use Rattle.marks.specs.Marks.{marked}
 use Rattle.marks.specs.Within.{within, within-is, is-within}
 use Rattle.terms.specs.Valid.{holds, holds-valid, valid-holds}
-use Rattle.terms.specs.AllOf.{and-true, each, each-true, true-each, five}
+use Rattle.terms.specs.AllOf.{each, each-true, true-each, five}
 use Rattle.runs.specs.Promises.{rows-decided}
 use Rattle.terms.specs.Choice.{no-true, is-false}
 use Rattle.runs.specs.Lent.{rowsHold}
@@ -63,7 +63,7 @@ module _ (n : ℕ) (cache : List Entry) (count : ℕ) where
   unfolding entriesHold
   misfit i h e =
       is-false (leb count 16 && each (λ i. entryFits n (getD cache i empty)) count)
-      (λ q. no-true (sym e ∙ each-true (λ i. entryFits n (getD cache i empty)) count (and-true (leb count 16) _ q .1) i h))
+      (λ q. no-true (sym e ∙ each-true (λ i. entryFits n (getD cache i empty)) count (and-eq-true-iff (leb count 16) _ .0 q .1) i h))
 
   pub all-fit : count ≤ 16 → ((i : ℕ) → i < count → entryFits n (getD cache i empty) ≡ true) → true ≡ entriesHold n cache count
   unfolding entriesHold
@@ -72,12 +72,12 @@ module _ (n : ℕ) (cache : List Entry) (count : ℕ) where
   pub entries-are : entriesHold n cache count ≡ true → (count ≤ 16) × ((i : ℕ) → i < count → EntryFits n (getD cache i empty))
   unfolding entriesHold
   entries-are e =
-      let p = and-true (leb count 16) _ e in
+      let p = and-eq-true-iff (leb count 16) _ .0 e in
       (leb-true count 16 (p .0), λ i h. fitting (getD cache i empty) (each-true (λ i. entryFits n (getD cache i empty)) count (p .1) i h))
     where
       fitting : (x : Entry) → entryFits n x ≡ true → EntryFits n x
       fitting x q =
-          let t = and-true (ltb (x .b) n) (leb (x .k) 95) q in
+          let t = and-eq-true-iff (ltb (x .b) n) (leb (x .k) 95) .0 q in
           record { b-below = ltb-true (x .b) n (t .0); k-most = leb-true (x .k) 95 (t .1) }
 
 module _ (ws : List ℕ) (count : ℕ) where
@@ -91,7 +91,7 @@ module _ (ws : List ℕ) (count : ℕ) where
 
   pub wire-is : wireHolds ws count ≡ true → (length ws ≡ 8) × ((i : ℕ) → marked ws i ≡ true → i < count)
   unfolding wireHolds
-  wire-is e = let p = and-true (eqb (length ws) 8) (within ws count) e in (eqb-true (length ws) 8 (p .0), within-is ws count (p .1))
+  wire-is e = let p = and-eq-true-iff (eqb (length ws) 8) (within ws count) .0 e in (eqb-true (length ws) 8 (p .0), within-is ws count (p .1))
 
 -- the test says that the tables hold together, where the fields have their widths
 pub together-is : (t : Tables) → Narrow (t .realm) → WordsFit (t .wire) → length (t .cache) ≡ 16 → together t ≡ true → Together t

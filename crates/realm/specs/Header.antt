@@ -2,7 +2,7 @@
 -- Assumes nothing.
 use Prim.Native.Nat.{ℕ, zero, suc, _+_, _/_, _%_, _^_, _<_, _≤_}
 use mathlib.Core.Path.{_≡_, sym, ap, _∙_}
-use mathlib.Core.Bool.{Bool, true, false, not, _&&_}
+use mathlib.Core.Bool.{Bool, true, false, not, _&&_, and-eq-true-iff}
 use mathlib.Core.Logic.{_≢_}
 use native.Mathlib.Nat.{div-le-self, div-lt-iff-lt-mul, pow-suc}
 use native.Mathlib.Omega.{arith}
@@ -11,7 +11,6 @@ use lib.Dec.{ltb, leb, eqb}
 use lib.Pow.{shr-shr, pow-pos}
 use Rattle.marks.specs.Bits.{bit, bit-zero, bit-suc, bit-past, bit-small}
 use Rattle.marks.specs.Marks.{isSet, is-set, set-is}
-use Rattle.terms.specs.AllOf.{and-true}
 use Rattle.terms.specs.Choice.{no-true, is-false}
 use Rattle.traces.specs.Realm as exchange
 use Rattle.traces.specs.Realm.{Header}
@@ -67,11 +66,11 @@ module _ (n flags ls la : ℕ) where
   pub fits-header : ls < 2 ^ 32 → la < 2 ^ 32 → headerFits n flags ls la ≡ true → Header (values n flags ls la)
   unfolding headerFits
   fits-header hs ha e =
-      let p = and-true (leb 3 n && leb n 16) (not (isSet flags 0) && eqb (flags / 2 ^ n) 0 && ltb 0 ls && ltb 0 la) e in
-      let limits = and-true (leb 3 n) (leb n 16) (p .0) in
-      let q = and-true (not (isSet flags 0) && eqb (flags / 2 ^ n) 0 && ltb 0 ls) (ltb 0 la) (p .1) in
-      let r = and-true (not (isSet flags 0) && eqb (flags / 2 ^ n) 0) (ltb 0 ls) (q .0) in
-      let s = and-true (not (isSet flags 0)) (eqb (flags / 2 ^ n) 0) (r .0) in
+      let p = and-eq-true-iff (leb 3 n && leb n 16) (not (isSet flags 0) && eqb (flags / 2 ^ n) 0 && ltb 0 ls && ltb 0 la) .0 e in
+      let limits = and-eq-true-iff (leb 3 n) (leb n 16) .0 (p .0) in
+      let q = and-eq-true-iff (not (isSet flags 0) && eqb (flags / 2 ^ n) 0 && ltb 0 ls) (ltb 0 la) .0 (p .1) in
+      let r = and-eq-true-iff (not (isSet flags 0) && eqb (flags / 2 ^ n) 0) (ltb 0 ls) .0 (q .0) in
+      let s = and-eq-true-iff (not (isSet flags 0)) (eqb (flags / 2 ^ n) 0) .0 (r .0) in
       record {
         least = leb-true 3 n (limits .0);
         most = leb-true n 16 (limits .1);

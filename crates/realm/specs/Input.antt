@@ -5,11 +5,10 @@ use Prim.Native.Nat.{ℕ, _<_, _≤_}
 use mathlib.Core.Path.{_≡_, refl, sym}
 use native.Mathlib.Omega.{arith}
 use borrow.Author.Tests.{le-leb, lt-leb, leb-true}
-use mathlib.Core.Bool.{Bool, true, false, not, _&&_, _||_}
+use mathlib.Core.Bool.{Bool, true, false, not, _&&_, _||_, and-eq-true-iff}
 use mathlib.Core.List.{List, [], _∷_}
 use lib.Dec.{ltb, leb, eqb}
 use lib.ListN.{getD, List·getD-eq-default}
-use Rattle.terms.specs.AllOf.{and-true}
 use Rattle.terms.specs.Choice.{pick}
 use Rattle.runs.specs.Lent.{principalsFit}
 use Rattle.realm.specs.declared.header.Realm.{Realm}
@@ -133,7 +132,7 @@ pub passed : (h : Realm) (s : Step) → inputRefusal h s ≡ 0 → Passed h s
 unfolding inputRefusal
 passed h s e =
     let t = all-three (leb 1 (s .step) && leb (s .step) 10) (unusedZero (usesOf (s .step)) s) (inRange h (usesOf (s .step)) s) e in
-    let u = and-true (leb 1 (s .step)) (leb (s .step) 10) (t .0) in
+    let u = and-eq-true-iff (leb 1 (s .step)) (leb (s .step) 10) .0 (t .0) in
     record { low = leb-true 1 (s .step) (u .0); high = leb-true (s .step) 10 (u .1); unused = t .1; range = t .2 }
 
 pub passed-back : (h : Realm) (s : Step) → Passed h s → inputRefusal h s ≡ 0

@@ -2,14 +2,14 @@
 -- the answer says whether the message can be derived: by `Derives`, which runs no search, and not by the test's own function.
 -- Assumes nothing.
 use mathlib.Core.Path.{_≡_, refl, sym, _∙_}
-use mathlib.Core.Bool.{Bool, true, false}
+use mathlib.Core.Bool.{Bool, true, false, _&&_, and-eq-true-iff}
 use mathlib.Core.List.{List}
 use Prim.Native.Nat.{ℕ, _<_, _≤_}
 use borrow.Author.Tests.{eqb-true, eq-eqb, lt-ltb, le-ltb}
 use lib.Dec.{eqb, ltb}
 use lib.ListN.{length}
 use Rattle.marks.specs.Within.{within}
-use Rattle.terms.specs.Choice.{both, both-true, true-both, no-true}
+use Rattle.terms.specs.Choice.{no-true}
 use Rattle.terms.specs.Valid.{holds}
 use Rattle.synthesis.specs.declared.lent.Answer.{Answer}
 use Rattle.synthesis.specs.declared.lent.Answer.the-variants as answer
@@ -17,7 +17,7 @@ use Rattle.deduction.specs.Known.{Derivable}
 
 -- the term table holds together, and the wire is a set of 8 words with no "mark past the last term"
 unfoldable pub tablesHold : (n : ℕ) (ts : List ℕ) (count : ℕ) (ws : List ℕ) → Bool
-tablesHold n ts count ws = both (holds n ts count) (both (eqb (length ws) 8) (within ws count))
+tablesHold n ts count ws = holds n ts count && (eqb (length ws) 8 && within ws count)
 
 -- what the paper says of each answer
 abbrev pub AnswerSays : (n flags : ℕ) (ts : List ℕ) (count : ℕ) (ws : List ℕ) (t : ℕ) → Answer → Type 0
@@ -40,15 +40,15 @@ pub record TablesHold (n : ℕ) (ts : List ℕ) (count : ℕ) (ws : List ℕ) : 
 pub tables-are : (n : ℕ) (ts : List ℕ) (count : ℕ) (ws : List ℕ) → tablesHold n ts count ws ≡ true → TablesHold n ts count ws
 unfolding tablesHold
 tables-are n ts count ws e =
-    let a = both-true (holds n ts count) (both (eqb (length ws) 8) (within ws count)) e in
-    let b = both-true (eqb (length ws) 8) (within ws count) (a .1) in
+    let a = and-eq-true-iff (holds n ts count) (eqb (length ws) 8 && within ws count) .0 e in
+    let b = and-eq-true-iff (eqb (length ws) 8) (within ws count) .0 (a .1) in
     record { terms = a .0; words = eqb-true (length ws) 8 (b .0); marks = b .1 }
 
 pub are-tables : {n : ℕ} {ts : List ℕ} {count : ℕ} {ws : List ℕ} → TablesHold n ts count ws → tablesHold n ts count ws ≡ true
 unfolding tablesHold
 are-tables {n} {ts} {count} {ws} h =
-    true-both (holds n ts count) (both (eqb (length ws) 8) (within ws count)) (h .terms)
-    (true-both (eqb (length ws) 8) (within ws count) (eq-eqb (length ws) 8 (h .words)) (h .marks))
+    and-eq-true-iff (holds n ts count) (eqb (length ws) 8 && within ws count) .1
+    (h .terms, and-eq-true-iff (eqb (length ws) 8) (within ws count) .1 (eq-eqb (length ws) 8 (h .words), h .marks))
 
 -- ---- by the way out
 

@@ -2,14 +2,14 @@
 -- remembers what it put together; the answer is the same, since both decide `Derivable`.
 -- Assumes nothing.
 use mathlib.Core.Path.{_≡_, refl, subst}
-use mathlib.Core.Bool.{Bool, true, false}
+use mathlib.Core.Bool.{Bool, true, false, _&&_}
 use mathlib.Core.List.{List}
 use Prim.Native.Nat.{ℕ, zero, suc, _-_, _<_}
 use native.Mathlib.Omega.{arith}
 use borrow.Author.Tests.{eqb-true, eqb-false}
 use lib.Dec.{eqb}
 use Rattle.marks.specs.Marks.{Words, marked, size}
-use Rattle.terms.specs.Choice.{pick, both, Decides, pick-elim, proved, refuted, same-answer}
+use Rattle.terms.specs.Choice.{pick, Decides, pick-elim, proved, refuted, same-answer}
 use Rattle.terms.specs.Descend.{layers, descend}
 use Rattle.terms.specs.Meaning.{messageAt}
 use Rattle.terms.specs.Rules.{termAt}
@@ -35,7 +35,7 @@ saturateOf flags ts count (suc fuel) ws =
 
 -- both operands can be put together, or an atom is public
 abbrev pub madeOf : (ℕ → Bool) → Bool → Operands → Bool
-madeOf sub free (Two l r) = both (sub l) (sub r)
+madeOf sub free (Two l r) = sub l && sub r
 madeOf sub free Atom = free
 
 -- term t is in the set or can be made, given the answers on its operands
@@ -64,7 +64,7 @@ saturate-fills flags {n} {ts} {count} v {ws} (suc fuel) {s} f h =
 
 -- ---- the descent
 
-both-decide : {P Q R : Type 0} (a b : Bool) → Decides a P → Decides b Q → (P → Q → R) → (R → P × Q) → Decides (both a b) R
+both-decide : {P Q R : Type 0} (a b : Bool) → Decides a P → Decides b Q → (P → Q → R) → (R → P × Q) → Decides (a && b) R
 both-decide true true f g i o = proved (i (f .yes refl) (g .yes refl))
 both-decide true false f g i o = refuted (λ y. g .no refl (o y .1))
 both-decide false b f g i o = refuted (λ y. f .no refl (o y .0))

@@ -1,11 +1,10 @@
 -- A test that is true where several tests are, and one that is true where a test is true of each number below a bound.
 -- Assumes nothing.
 use mathlib.Core.Path.{_≡_, refl}
-use mathlib.Core.Bool.{Bool, true, false, _&&_}
+use mathlib.Core.Bool.{Bool, true, _&&_, and-eq-true-iff}
 use Prim.Native.Nat.{ℕ, zero, suc, _<_}
 use native.Mathlib.Decide.{ℕ-discrete}
 use native.Mathlib.Omega.{arith}
-use Rattle.terms.specs.Choice.{no-true}
 
 pub record Five (a b c d e : Bool) : Type 0 where
   pub first : a ≡ true
@@ -14,16 +13,12 @@ pub record Five (a b c d e : Bool) : Type 0 where
   pub fourth : d ≡ true
   pub fifth : e ≡ true
 
-pub and-true : (a b : Bool) → (a && b) ≡ true → (a ≡ true) × (b ≡ true)
-and-true true b h = (refl, h)
-and-true false b h = no-true h
-
 pub five : (a b c d e : Bool) → (a && b && c && d && e) ≡ true → Five a b c d e
 five a b c d e h =
-    let p = and-true (a && b && c && d) e h in
-    let q = and-true (a && b && c) d (p .0) in
-    let r = and-true (a && b) c (q .0) in
-    let s = and-true a b (r .0) in
+    let p = and-eq-true-iff (a && b && c && d) e .0 h in
+    let q = and-eq-true-iff (a && b && c) d .0 (p .0) in
+    let r = and-eq-true-iff (a && b) c .0 (q .0) in
+    let s = and-eq-true-iff a b .0 (r .0) in
     record { first = s .0; second = s .1; third = r .1; fourth = q .1; fifth = p .1 }
 
 pub all-five : {a b c d e : Bool} → Five a b c d e → (a && b && c && d && e) ≡ true
@@ -36,7 +31,7 @@ each f (suc m) = each f m && f m
 pub each-true : (f : ℕ → Bool) (m : ℕ) → each f m ≡ true → (i : ℕ) → i < m → f i ≡ true
 unfolding each
 each-true f zero e i h = absurd (omega arith)
-each-true f (suc m) e i h = let b = and-true (each f m) (f m) e in by-eq (each-true f m (b .0) i) (b .1) (ℕ-discrete i m)
+each-true f (suc m) e i h = let b = and-eq-true-iff (each f m) (f m) .0 e in by-eq (each-true f m (b .0) i) (b .1) (ℕ-discrete i m)
   where
     by-eq : (i < m → f i ≡ true) → f m ≡ true → Dec (i ≡ m) → f i ≡ true
     by-eq below last (yes q) = rw q last

@@ -1,19 +1,13 @@
 -- Choices by a Bool, and what a Bool that was computed says. Definitions that follow the code's tests are made of these.
 -- Assumes nothing.
 use mathlib.Core.Path.{_≡_, refl, sym}
-use mathlib.Core.Bool.{Bool, true, false}
-use Prim.Native.Nat.{ℕ}
-use native.Mathlib.Omega.{arith}
+use mathlib.Core.Bool.{Bool, true, false, _&&_, false≢true}
 
 -- ---- definitions
 
 abbrev pub pick : {A : Type 0} → Bool → A → A → A
 pick true a b = a
 pick false a b = b
-
-abbrev pub both : Bool → Bool → Bool
-both true b = b
-both false b = false
 
 -- the answer of a test is true exactly where P holds
 pub record Decides (answer : Bool) (P : Type 0) : Type 0 where
@@ -23,7 +17,7 @@ pub record Decides (answer : Bool) (P : Type 0) : Type 0 where
 -- ---- laws
 
 pub no-true : {A : Type 0} → false ≡ true → A
-no-true e = let z : _≡_ {A = ℕ} 0 1 = cc in absurd (omega arith)
+no-true e = absurd (false≢true e)
 
 -- a test that cannot be true is false
 pub is-false : (b : Bool) → (b ≡ true → ⊥) → false ≡ b
@@ -34,18 +28,10 @@ pub pick-elim : {A : Type 0} (P : A → Type 0) (c : Bool) (a b : A) → (c ≡ 
 pick-elim P true a b f g = f refl
 pick-elim P false a b f g = g refl
 
-pub both-true : (a b : Bool) → both a b ≡ true → (a ≡ true) × (b ≡ true)
-both-true true b e = (refl, e)
-both-true false b e = no-true e
-
-pub true-both : (a b : Bool) → a ≡ true → b ≡ true → both a b ≡ true
-true-both true b p q = q
-true-both false b p q = no-true p
-
 -- behind a test, only what the test lets pass matters
-pub both-same : (a b c : Bool) → (a ≡ true → b ≡ c) → both a b ≡ both a c
-both-same true b c f = f refl
-both-same false b c f = refl
+pub and-same : (a b c : Bool) → (a ≡ true → b ≡ c) → a && b ≡ a && c
+and-same true b c f = f refl
+and-same false b c f = refl
 
 pub proved : {P : Type 0} → P → Decides true P
 proved p = record { yes = λ _. p; no = λ e. no-true (sym e) }

@@ -2,7 +2,7 @@
 -- (document 01, "Terms" and "What turns a record away, from the input").
 -- Assumes nothing.
 use mathlib.Core.Path.{_≡_, refl, ap, _∙_}
-use mathlib.Core.Bool.{Bool, true, false}
+use mathlib.Core.Bool.{Bool, true, false, _&&_, and-eq-true-iff}
 use mathlib.Core.List.{List}
 use Prim.Native.Nat.{ℕ, zero, suc, _+_, _*_, _<_, _≤_}
 use native.Mathlib.Omega.{arith}
@@ -11,7 +11,7 @@ use lib.Dec.{ltb, leb, eqb}
 use lib.ListN.{getD}
 use Rattle.words.specs.declared.Term.{Term}
 use Rattle.words.specs.declared.Term.the-variants.{Principal, Time, Nonce, LongTermKey, SessionKey, Pair, Encrypted, Unknown}
-use Rattle.terms.specs.Choice.{pick, both, both-true, true-both, both-same, no-true}
+use Rattle.terms.specs.Choice.{pick, and-same, no-true}
 use Rattle.words.specs.Word.{kindOf, leftOf, rightOf, termBy, termOf, wordOf}
 
 -- ---- definitions
@@ -48,8 +48,8 @@ fieldsOk n ts at (Time t) = true
 fieldsOk n ts at (Nonce i) = leb i 95
 fieldsOk n ts at (LongTermKey p) = ltb p n
 fieldsOk n ts at (SessionKey i) = leb i 95
-fieldsOk n ts at (Pair l r) = both (ltb l at) (ltb r at)
-fieldsOk n ts at (Encrypted b k) = both (ltb b at) (both (ltb k at) (isKey (termAt ts k)))
+fieldsOk n ts at (Pair l r) = ltb l at && ltb r at
+fieldsOk n ts at (Encrypted b k) = ltb b at && (ltb k at && isKey (termAt ts k))
 fieldsOk n ts at Unknown = false
 
 -- 0, or the number of the refusal: 4 "kind above 6", 5 "a field the record does not use is not 0", 6 as above
@@ -99,11 +99,11 @@ fields n ts at (Nonce i) e = leb-true i 95 e
 fields n ts at (LongTermKey p) e = ltb-true p n e
 fields n ts at (SessionKey i) e = leb-true i 95 e
 fields n ts at (Pair l r) e =
-    let t = both-true (ltb l at) (ltb r at) e in
+    let t = and-eq-true-iff (ltb l at) (ltb r at) .0 e in
     (ltb-true l at (t .0), ltb-true r at (t .1))
 fields n ts at (Encrypted b k) e =
-    let t = both-true (ltb b at) (both (ltb k at) (isKey (termAt ts k))) e in
-    let u = both-true (ltb k at) (isKey (termAt ts k)) (t .1) in
+    let t = and-eq-true-iff (ltb b at) (ltb k at && isKey (termAt ts k)) .0 e in
+    let u = and-eq-true-iff (ltb k at) (isKey (termAt ts k)) .0 (t .1) in
     (ltb-true b at (t .0), ltb-true k at (u .0), u .1)
 fields n ts at Unknown e = no-true e
 
@@ -113,10 +113,10 @@ fields-ok n ts at (Time t) f = refl
 fields-ok n ts at (Nonce i) f = le-leb i 95 f
 fields-ok n ts at (LongTermKey p) f = lt-ltb p n f
 fields-ok n ts at (SessionKey i) f = le-leb i 95 f
-fields-ok n ts at (Pair l r) f = true-both (ltb l at) (ltb r at) (lt-ltb l at (f .0)) (lt-ltb r at (f .1))
+fields-ok n ts at (Pair l r) f = and-eq-true-iff (ltb l at) (ltb r at) .1 (lt-ltb l at (f .0), lt-ltb r at (f .1))
 fields-ok n ts at (Encrypted b k) f =
-    true-both (ltb b at) (both (ltb k at) (isKey (termAt ts k))) (lt-ltb b at (f .0))
-    (true-both (ltb k at) (isKey (termAt ts k)) (lt-ltb k at (f .1)) (f .2))
+    and-eq-true-iff (ltb b at) (ltb k at && isKey (termAt ts k)) .1
+    (lt-ltb b at (f .0), and-eq-true-iff (ltb k at) (isKey (termAt ts k)) .1 (lt-ltb k at (f .1), f .2))
 fields-ok n ts at Unknown f = absurd f
 
 -- ---- a word that passes is that of its term
@@ -153,8 +153,8 @@ fields-same n ts ts′ at g (LongTermKey p) = refl
 fields-same n ts ts′ at g (SessionKey i) = refl
 fields-same n ts ts′ at g (Pair l r) = refl
 fields-same n ts ts′ at g (Encrypted b k) =
-    ap (both (ltb b at))
-    (both-same (ltb k at) (isKey (termAt ts k)) (isKey (termAt ts′ k)) (λ e. ap (λ (w : ℕ). isKey (termOf w)) (g k (ltb-true k at e))))
+    ap (_&&_ (ltb b at))
+    (and-same (ltb k at) (isKey (termAt ts k)) (isKey (termAt ts′ k)) (λ e. ap (λ (w : ℕ). isKey (termOf w)) (g k (ltb-true k at e))))
 fields-same n ts ts′ at g Unknown = refl
 
 pub refusal-same : (n : ℕ) (ts ts′ : List ℕ) (at w : ℕ) → Agree ts ts′ at → refusalOf n ts at w ≡ refusalOf n ts′ at w

@@ -3,7 +3,7 @@
 -- `Valid` says what it is; `holds` is the same as a test that computes, which the promises of the public calls cite.
 -- Assumes nothing.
 use mathlib.Core.Path.{_≡_, refl, sym, ap, _∙_, subst}
-use mathlib.Core.Bool.{Bool, true, false}
+use mathlib.Core.Bool.{Bool, true, false, _&&_, and-eq-true-iff}
 use mathlib.Core.List.{List}
 use Prim.Native.Nat.{ℕ, zero, suc, _<_, _≤_}
 use native.Mathlib.Decide.{ℕ-discrete, decLt}
@@ -14,7 +14,7 @@ use lib.ListN.{length, getD}
 use Rattle.words.specs.declared.Term.{Term}
 use Rattle.terms.specs.declared.table.Found.{Found}
 use Rattle.terms.specs.declared.table.Found.the-variants.{At, Nothing}
-use Rattle.terms.specs.Choice.{both, both-true, true-both, no-true}
+use Rattle.terms.specs.Choice.{no-true}
 use Rattle.terms.specs.Rules.{refusalOf, Agree, refusal-same, termAt, Passed, passed, Fields, fields}
 use Rattle.terms.specs.Table.{findOf, Absent, found-at, find-absent}
 
@@ -37,14 +37,14 @@ isNothing (At i) = false
 isNothing Nothing = true
 
 unfoldable pub stands : (n : ℕ) (ts : List ℕ) (i : ℕ) → Bool
-stands n ts i = both (eqb (refusalOf n ts i (getD ts i 0)) 0) (isNothing (findOf ts i (getD ts i 0)))
+stands n ts i = eqb (refusalOf n ts i (getD ts i 0)) 0 && isNothing (findOf ts i (getD ts i 0))
 
 unfoldable pub allStand : (n : ℕ) (ts : List ℕ) (count : ℕ) → Bool
 allStand n ts zero = true
-allStand n ts (suc m) = both (allStand n ts m) (stands n ts m)
+allStand n ts (suc m) = allStand n ts m && stands n ts m
 
 unfoldable pub holds : (n : ℕ) (ts : List ℕ) (count : ℕ) → Bool
-holds n ts count = both (eqb (length ts) 512) (both (leb count 512) (allStand n ts count))
+holds n ts count = eqb (length ts) 512 && (leb count 512 && allStand n ts count)
 
 -- ---- the test says what `Valid` says
 
@@ -59,7 +59,7 @@ nothing-is Nothing e = refl
 pub stands-is : (n : ℕ) (ts : List ℕ) (i : ℕ) → stands n ts i ≡ true → Stands n ts i
 unfolding stands
 stands-is n ts i e =
-    let b = both-true (eqb (refusalOf n ts i (getD ts i 0)) 0) (isNothing (findOf ts i (getD ts i 0))) e in
+    let b = and-eq-true-iff (eqb (refusalOf n ts i (getD ts i 0)) 0) (isNothing (findOf ts i (getD ts i 0))) .0 e in
     record {
       fine = eqb-true (refusalOf n ts i (getD ts i 0)) 0 (b .0);
       new = found-at ts i (getD ts i 0) (nothing-is (findOf ts i (getD ts i 0)) (b .1));
@@ -68,8 +68,8 @@ stands-is n ts i e =
 pub is-stands : {n : ℕ} {ts : List ℕ} {i : ℕ} → Stands n ts i → stands n ts i ≡ true
 unfolding stands
 is-stands {n} {ts} {i} s =
-    true-both (eqb (refusalOf n ts i (getD ts i 0)) 0) (isNothing (findOf ts i (getD ts i 0))) (eq-eqb (refusalOf n ts i (getD ts i 0)) 0 (s .fine))
-    (ap isNothing (find-absent ts i (getD ts i 0) (s .new)))
+    and-eq-true-iff (eqb (refusalOf n ts i (getD ts i 0)) 0) (isNothing (findOf ts i (getD ts i 0))) .1
+    (eq-eqb (refusalOf n ts i (getD ts i 0)) 0 (s .fine), ap isNothing (find-absent ts i (getD ts i 0) (s .new)))
 
 pub terms-of : {n : ℕ} {ts : List ℕ} {count : ℕ} → ((i : ℕ) → i < count → Stands n ts i) → Terms n ts count
 terms-of {n} {ts} {count} all = record { fine = λ i h. all i h .fine; once = once }
@@ -93,7 +93,7 @@ pub all-stand : (n : ℕ) (ts : List ℕ) (count : ℕ) → allStand n ts count 
 unfolding allStand
 all-stand n ts zero e i h = absurd (omega arith)
 all-stand n ts (suc m) e i h =
-    let b = both-true (allStand n ts m) (stands n ts m) e in
+    let b = and-eq-true-iff (allStand n ts m) (stands n ts m) .0 e in
     by-eq (all-stand n ts m (b .0) i) (stands-is n ts m (b .1)) (ℕ-discrete i m)
   where
     by-eq : (i < m → Stands n ts i) → Stands n ts m → Dec (i ≡ m) → Stands n ts i
@@ -104,13 +104,13 @@ stand-all : (n : ℕ) (ts : List ℕ) (count : ℕ) → ((i : ℕ) → i < count
 unfolding allStand
 stand-all n ts zero all = refl
 stand-all n ts (suc m) all =
-    true-both (allStand n ts m) (stands n ts m) (stand-all n ts m (λ i h. all i (omega arith))) (is-stands (all m (omega arith)))
+    and-eq-true-iff (allStand n ts m) (stands n ts m) .1 (stand-all n ts m (λ i h. all i (omega arith)), is-stands (all m (omega arith)))
 
 pub holds-valid : (n : ℕ) (ts : List ℕ) (count : ℕ) → holds n ts count ≡ true → Valid n ts count
 unfolding holds
 holds-valid n ts count e =
-    let b = both-true (eqb (length ts) 512) (both (leb count 512) (allStand n ts count)) e in
-    let d = both-true (leb count 512) (allStand n ts count) (b .1) in
+    let b = and-eq-true-iff (eqb (length ts) 512) (leb count 512 && allStand n ts count) .0 e in
+    let d = and-eq-true-iff (leb count 512) (allStand n ts count) .0 (b .1) in
     record {
       size = eqb-true (length ts) 512 (b .0);
       room = leb-true count 512 (d .0);
@@ -120,8 +120,8 @@ holds-valid n ts count e =
 pub valid-holds : {n : ℕ} {ts : List ℕ} {count : ℕ} → Valid n ts count → holds n ts count ≡ true
 unfolding holds
 valid-holds {n} {ts} {count} v =
-    true-both (eqb (length ts) 512) (both (leb count 512) (allStand n ts count)) (eq-eqb (length ts) 512 (v .size))
-    (true-both (leb count 512) (allStand n ts count) (le-leb count 512 (v .room)) (stand-all n ts count (terms-stand (v .terms))))
+    and-eq-true-iff (eqb (length ts) 512) (leb count 512 && allStand n ts count) .1
+    (eq-eqb (length ts) 512 (v .size), and-eq-true-iff (leb count 512) (allStand n ts count) .1 (le-leb count 512 (v .room), stand-all n ts count (terms-stand (v .terms))))
 
 -- ---- what the rules give at each term
 

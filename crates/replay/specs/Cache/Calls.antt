@@ -1,17 +1,15 @@
 -- Laws of the two calls: how each ends by what holds before it, and back, what held before it by how it ended. Assumes nothing.
-use mathlib.Core.Path.{_≡_, refl, sym, _∙_}
+use mathlib.Core.Path.{_≡_, refl}
 use Prim.Native.Nat.{ℕ, _+_, _<_, _≤_}
 use native.Mathlib.Omega.{arith}
-use mathlib.Core.Bool.{Bool, true, false, not}
+use mathlib.Core.Bool.{Bool, true, false, not, and-eq-true-iff, and-false}
 use mathlib.Core.List.{List, [], _∷_, _++_}
 use lib.Dec.{eqb, leb}
-use lib.ListN.{length, set}
+use lib.ListN.{length}
 use borrow.Author.Tests.{not-false, eqb-true, eqb-false, leb-true, le-leb, lt-leb, eq-eqb, ne-eqb}
 use Rattle.replay.specs.declared.entry.Entry.{Entry}
 use Rattle.replay.specs.declared.entry.Purge.{Purge}
 use Rattle.replay.specs.Cache.{choose, present, kept, entries, Outcome, refused, accepted, holding, fits, remembered, forgotten}
-use Rattle.replay.specs.Cache.Entries.{and-true, and-false}
-use Rattle.replay.specs.Cache.Places.{append-length, written-append}
 
 -- ---- the ways out of a call
 
@@ -22,11 +20,11 @@ module _ (list : List Entry) (count : ℕ) where
 
   pub fits-list : fits list count ≡ true → length list ≡ 16
   unfolding fits
-  fits-list f = eqb-true (length list) 16 (and-true (eqb (length list) 16) (leb count 16) f .0)
+  fits-list f = eqb-true (length list) 16 (and-eq-true-iff (eqb (length list) 16) (leb count 16) .0 f .0)
 
   pub fits-count : fits list count ≡ true → count ≤ 16
   unfolding fits
-  fits-count f = leb-true count 16 (and-true (eqb (length list) 16) (leb count 16) f .1)
+  fits-count f = leb-true count 16 (and-eq-true-iff (eqb (length list) 16) (leb count 16) .0 f .1)
 
   pub misfit-count : 16 < count → fits list count ≡ false
   unfolding fits

@@ -5,7 +5,7 @@ use Prim.Native.Nat.{ℕ, zero, suc, _+_, _<_, _≤_}
 use native.Mathlib.Nat.{not-suc-le-zero, le-of-suc-le-suc}
 use native.Mathlib.Numerals.{add-one}
 use native.Mathlib.Omega.{arith}
-use mathlib.Core.Bool.{Bool, true, false, not, _&&_, _||_}
+use mathlib.Core.Bool.{Bool, true, false, not, _&&_, _||_, and-eq-true-iff}
 use mathlib.Core.List.{List, [], _∷_, _++_, List·Memᴰ, List·Memᴰ·head, List·Memᴰ·tail}
 use lib.Dec.{eqb, ltb, leb}
 use lib.ListN.{length, getD, take}
@@ -15,16 +15,6 @@ use Rattle.replay.specs.declared.entry.Entry.{Entry}
 use Rattle.replay.specs.declared.entry.Purge.{Purge}
 use Rattle.replay.specs.Cache.{choose, empty, same, filter, present, stays, entries}
 
--- ---- tests
-
-pub and-true : (s t : Bool) → s && t ≡ true → (s ≡ true) × (t ≡ true)
-and-true true t h = (refl, h)
-and-true false t h = absurd (let z : _≡_ {A = ℕ} 0 1 = cc in omega arith)
-
-pub and-false : (t : Bool) → t && false ≡ false
-and-false true = refl
-and-false false = refl
-
 -- ---- same
 
 pub same-refl : (x : Entry) → same x x ≡ true
@@ -33,8 +23,8 @@ same-refl x = rw (eq-eqb (x .b) (x .b) refl, eq-eqb (x .k) (x .k) refl, eq-eqb (
 module _ (x y : Entry) where
   pub same-eq : same x y ≡ true → x ≡ y
   same-eq h =
-      let p = and-true (eqb (x .b) (y .b)) (eqb (x .k) (y .k) && eqb (x .ta) (y .ta)) h in
-      let q = and-true (eqb (x .k) (y .k)) (eqb (x .ta) (y .ta)) (p .1) in
+      let p = and-eq-true-iff (eqb (x .b) (y .b)) (eqb (x .k) (y .k) && eqb (x .ta) (y .ta)) .0 h in
+      let q = and-eq-true-iff (eqb (x .k) (y .k)) (eqb (x .ta) (y .ta)) .0 (p .1) in
       λ j. record { b = eqb-true (x .b) (y .b) (p .0) j; k = eqb-true (x .k) (y .k) (q .0) j; ta = eqb-true (x .ta) (y .ta) (q .1) j }
 
   pub other-b : (x .b ≡ y .b → ⊥) → same x y ≡ false
@@ -69,7 +59,7 @@ module _ (p : Purge) (x : Entry) where
   pub goes : stays p x ≡ false → (x .b ≡ p .b) × (x .ta + p .la ≤ p .clock)
   unfolding stays
   goes h =
-      let t = and-true (eqb (x .b) (p .b)) (leb (x .ta + p .la) _) (not-false _ h) in
+      let t = and-eq-true-iff (eqb (x .b) (p .b)) (leb (x .ta + p .la) _) .0 (not-false _ h) in
       let l = leb-true (x .ta + p .la) _ (t .1) in
       (eqb-true (x .b) (p .b) (t .0), omega (arith, l))
 
