@@ -2,7 +2,7 @@
 -- Assumes nothing.
 use mathlib.Core.Path.{_≡_, refl, sym, ap, _∙_, subst}
 use mathlib.Core.Logic.{inl, inr, ⊎-elim}
-use mathlib.Core.Bool.{Bool, true, false}
+use mathlib.Core.Bool.{Bool, true, false, cond}
 use mathlib.Core.List.{List}
 use Prim.Native.Nat.{ℕ, zero, suc, _<_, _≤_}
 use native.Mathlib.Nat.{le-refl}
@@ -11,7 +11,7 @@ use lib.ListN.{getD}
 use Rattle.marks.specs.Marks.{marked}
 use Rattle.words.specs.declared.Term.{Term}
 use Rattle.words.specs.declared.Term.the-variants.{Principal, Time, Nonce, LongTermKey, SessionKey, Pair, Encrypted, Unknown}
-use Rattle.terms.specs.Choice.{pick, pick-elim, no-true}
+use Rattle.terms.specs.Choice.{cond-elim, no-true}
 use Rattle.terms.specs.Meaning.{Under, under-at}
 use Rattle.terms.specs.Rules.{termAt, isKey}
 use Rattle.terms.specs.Valid.{Valid, fields-of}
@@ -39,7 +39,7 @@ under-along ts k (suc m) f e l ne = by (isUnder k (termAt ts m)) refl (under-alo
     is = ⊎-elim (λ z. absurd (ne z)) (λ x. x) (l .is)
 
     by : (c : Bool) → isUnder k (termAt ts m) ≡ c → (LastUnder ts k m e → (e ≡ 0 → ⊥) → underOf ts k m f ≡ underOf ts k e (decryptOf f e (termAt ts e)))
-        → underOf ts k m (pick c (decryptOf f m (termAt ts m)) f) ≡ underOf ts k e (decryptOf f e (termAt ts e))
+        → underOf ts k m (cond c (decryptOf f m (termAt ts m)) f) ≡ underOf ts k e (decryptOf f e (termAt ts e))
     by true u rest =
         let x = is-under k (termAt ts m) u in
         let s : m ≡ e = omega (arith, l .most m (x .0) (omega arith) (x .1), is .1) in
@@ -54,7 +54,7 @@ unfolding underOf
 under-end v k zero h f l = refl
 under-end {n} {ts} v k (suc m) h f l = by (isUnder k (termAt ts m)) refl (under-end v k m (omega arith) f)
   where
-    by : (c : Bool) → isUnder k (termAt ts m) ≡ c → (LastUnder ts k m 0 → underOf ts k m f ≡ f) → underOf ts k m (pick c (decryptOf f m (termAt ts m)) f) ≡ f
+    by : (c : Bool) → isUnder k (termAt ts m) ≡ c → (LastUnder ts k m 0 → underOf ts k m f ≡ f) → underOf ts k m (cond c (decryptOf f m (termAt ts m)) f) ≡ f
     by true u rest =
         let x = is-under k (termAt ts m) u in
         let low = fields-of (v .terms) m h (x .1) in
@@ -70,7 +70,7 @@ decrypt-room f e (Nonce n) u r = r
 decrypt-room f e (LongTermKey p) u r = r
 decrypt-room f e (SessionKey n) u r = r
 decrypt-room f e (Pair l r) u room = room
-decrypt-room f e (Encrypted b k) u r = pick-elim Room (marked (f .known) e) (learnOf f b) f (λ _. learn-room f b (u .0) r) (λ _. r)
+decrypt-room f e (Encrypted b k) u r = cond-elim Room (marked (f .known) e) (learnOf f b) f (λ _. learn-room f b (u .0) r) (λ _. r)
 decrypt-room f e Unknown u r = r
 
 module _ {ts : List ℕ} {count : ℕ} {c : List ℕ} (l : Linked ts count c) (k : ℕ) where

@@ -3,7 +3,7 @@
 -- Assumes nothing.
 use mathlib.Core.Path.{_≡_, refl, sym, ap, _∙_, subst}
 use mathlib.Core.Logic.{_⊎_, inl, inr, ⊎-elim}
-use mathlib.Core.Bool.{true}
+use mathlib.Core.Bool.{true, cond}
 use mathlib.Core.List.{List}
 use Prim.Native.Nat.{ℕ, zero, suc, _+_, _<_, _≤_}
 use native.Mathlib.Decide.{ℕ-discrete}
@@ -14,7 +14,7 @@ use Rattle.marks.specs.Marks.{marked}
 use Rattle.marks.specs.Size.{size-le}
 use Rattle.marks.specs.Empty.{empty-words, empty-marked, empty-size}
 use Rattle.words.specs.declared.Term.the-variants.{Pair, Encrypted}
-use Rattle.terms.specs.Choice.{pick, pick-elim, no-true}
+use Rattle.terms.specs.Choice.{cond-elim, no-true}
 use Rattle.terms.specs.Rules.{termAt}
 use Rattle.terms.specs.Valid.{Valid, fields-of}
 use Rattle.deduction.specs.Derives.{on-wire}
@@ -28,9 +28,9 @@ use Rattle.deduction.specs.Secrecy.{derives-more}
 -- ---- the terms on the wire
 
 module _ (flags : ℕ) {n : ℕ} {ts : List ℕ} {count : ℕ} (v : Valid n ts count) (ws : List ℕ) where
-  start-one : (g : Found) → Work n flags ts count ws g → (m : ℕ) → m < count → Step n flags ts count ws g (pick (marked ws m) (learnOf g m) g)
+  start-one : (g : Found) → Work n flags ts count ws g → (m : ℕ) → m < count → Step n flags ts count ws g (cond (marked ws m) (learnOf g m) g)
   start-one g w m h =
-      pick-elim (Step n flags ts count ws g) (marked ws m) (learnOf g m) g
+      cond-elim (Step n flags ts count ws g) (marked ws m) (learnOf g m) g
       (λ e. learn-step flags v ws w m h (on-wire (record { at = m; below = h; mark = e; is = refl }))) (λ _. step-refl flags v ws w)
 
   pub start-work : (f : Found) → Work n flags ts count ws f → (m : ℕ) → m ≤ count → Work n flags ts count ws (startOf ws m f)
@@ -49,7 +49,7 @@ module _ (flags : ℕ) {n : ℕ} {ts : List ℕ} {count : ℕ} (v : Valid n ts c
       at : Work n flags ts count ws g
       at = start-work f w m (omega arith)
 
-      by : Dec (i ≡ m) → (i < m → marked ws i ≡ true → marked (g .known) i ≡ true) → marked (pick (marked ws m) (learnOf g m) g .known) i ≡ true
+      by : Dec (i ≡ m) → (i < m → marked ws i ≡ true → marked (g .known) i ≡ true) → marked (cond (marked ws m) (learnOf g m) g .known) i ≡ true
       by (yes s) rest =
           let e′ : marked ws m ≡ true = subst (λ (x : ℕ). marked ws x ≡ true) s e in
           rw (s, e′) (learn-marks g m (omega (arith, v .room)) (at .listed .room))
@@ -207,7 +207,7 @@ unfolding startOf
 start-only ws zero h i m = no-true (sym (empty-marked 8 i) ∙ m)
 start-only ws (suc j) h i m =
     let g = startOf ws j blank in
-    pick-elim (λ (x : Found). marked (x .known) i ≡ true → marked ws i ≡ true) (marked ws j) (learnOf g j) g
+    cond-elim (λ (x : Found). marked (x .known) i ≡ true → marked ws i ≡ true) (marked ws j) (learnOf g j) g
     (λ on new. ⊎-elim (λ e. subst (λ (x : ℕ). marked ws x ≡ true) (sym e) on) (start-only ws j (omega arith) i) (learn-new g j h (start-room ws j (omega arith)) i new))
     (λ _ old. start-only ws j (omega arith) i old) m
 

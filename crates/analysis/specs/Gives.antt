@@ -3,7 +3,7 @@
 -- Assumes nothing.
 use mathlib.Core.Path.{_≡_, refl, sym, ap, subst}
 use mathlib.Core.Logic.{_⊎_, ⊎-elim}
-use mathlib.Core.Bool.{Bool, true, false}
+use mathlib.Core.Bool.{Bool, true, false, cond}
 use mathlib.Core.List.{List}
 use Prim.Native.Nat.{ℕ, zero, suc, _<_, _≤_}
 use native.Mathlib.Decide.{ℕ-discrete}
@@ -14,7 +14,7 @@ use lib.Dec.{eqb}
 use Rattle.marks.specs.Marks.{marked}
 use Rattle.words.specs.declared.Term.{Term}
 use Rattle.words.specs.declared.Term.the-variants.{Principal, Time, Nonce, LongTermKey, SessionKey, Pair, Encrypted, Unknown}
-use Rattle.terms.specs.Choice.{pick, pick-elim, no-true}
+use Rattle.terms.specs.Choice.{cond-elim, no-true}
 use Rattle.terms.specs.Rules.{termAt, isKey}
 use Rattle.terms.specs.Valid.{Valid, fields-of}
 use Rattle.worklist.specs.Found.{Found, learnOf, Listed, More, more-refl, more-trans, learn-marks, learn-more, learn-new, learn-listed}
@@ -42,13 +42,13 @@ decryptOf f e (Nonce i) = f
 decryptOf f e (LongTermKey p) = f
 decryptOf f e (SessionKey i) = f
 decryptOf f e (Pair l r) = f
-decryptOf f e (Encrypted b k) = pick (marked (f .known) e) (learnOf f b) f
+decryptOf f e (Encrypted b k) = cond (marked (f .known) e) (learnOf f b) f
 decryptOf f e Unknown = f
 
 -- the encryptions under key k, of the terms below m, the last first
 unfoldable pub underOf : List ℕ → (k m : ℕ) → Found → Found
 underOf ts k zero f = f
-underOf ts k (suc m) f = underOf ts k m (pick (isUnder k (termAt ts m)) (decryptOf f m (termAt ts m)) f)
+underOf ts k (suc m) f = underOf ts k m (cond (isUnder k (termAt ts m)) (decryptOf f m (termAt ts m)) f)
 
 -- what a pair and an encryption give
 abbrev pub partsOf : (flags : ℕ) (ts : List ℕ) → Found → Term → Found
@@ -58,12 +58,12 @@ partsOf flags ts f (Nonce n) = f
 partsOf flags ts f (LongTermKey p) = f
 partsOf flags ts f (SessionKey n) = f
 partsOf flags ts f (Pair l r) = learnOf (learnOf f l) r
-partsOf flags ts f (Encrypted b k) = pick (opensOf flags ts (f .known) k) (learnOf f b) f
+partsOf flags ts f (Encrypted b k) = cond (opensOf flags ts (f .known) k) (learnOf f b) f
 partsOf flags ts f Unknown = f
 
 -- what term i, of `count`, gives
 abbrev pub givenOf : (flags : ℕ) (ts : List ℕ) (count : ℕ) → Found → ℕ → Found
-givenOf flags ts count f i = pick (isKey (termAt ts i)) (underOf ts i count f) (partsOf flags ts f (termAt ts i))
+givenOf flags ts count f i = cond (isKey (termAt ts i)) (underOf ts i count f) (partsOf flags ts f (termAt ts i))
 
 -- what has been found can be derived from the terms of ws
 pub record Work (n flags : ℕ) (ts : List ℕ) (count : ℕ) (ws : List ℕ) (f : Found) : Type 0 where
@@ -151,20 +151,20 @@ module _ (flags : ℕ) {n : ℕ} {ts : List ℕ} {count : ℕ} (v : Valid n ts c
   decrypt-step {f} w e k h dk u =
       let x = is-under k (termAt ts e) u in
       rw (x .1)
-      (pick-elim (Next f) (marked (f .known) e) (learnOf f (x .0)) f
+      (cond-elim (Next f) (marked (f .known) e) (learnOf f (x .0)) f
       (λ m. learn-step w (x .0) (omega (arith, fields-of (v .terms) e h (x .1) .0)) (body-sure flags v (Known ts count ws) e h (x .0) k (x .1) (w .sound e h m) dk)) (λ _. step-refl w))
 
   one-step : {f : Found} → Work n flags ts count ws f → (e k : ℕ) → e < count → Certain k
-      → Next f (pick (isUnder k (termAt ts e)) (decryptOf f e (termAt ts e)) f)
+      → Next f (cond (isUnder k (termAt ts e)) (decryptOf f e (termAt ts e)) f)
   one-step {f} w e k h dk =
-      pick-elim (Next f) (isUnder k (termAt ts e)) (decryptOf f e (termAt ts e)) f (decrypt-step w e k h dk) (λ _. step-refl w)
+      cond-elim (Next f) (isUnder k (termAt ts e)) (decryptOf f e (termAt ts e)) f (decrypt-step w e k h dk) (λ _. step-refl w)
 
   pub under-step : (f : Found) → Work n flags ts count ws f → (k m : ℕ) → m ≤ count → Certain k → Next f (underOf ts k m f)
   unfolding underOf
   under-step f w k zero h dk = step-refl w
   under-step f w k (suc m) h dk =
       let one = one-step w m k h dk in
-      step-trans one (under-step (pick (isUnder k (termAt ts m)) (decryptOf f m (termAt ts m)) f) (one .work) k m (omega arith) dk)
+      step-trans one (under-step (cond (isUnder k (termAt ts m)) (decryptOf f m (termAt ts m)) f) (one .work) k m (omega arith) dk)
 
   parts-by : {f : Found} → Work n flags ts count ws f → (i : ℕ) → i < count → marked (f .known) i ≡ true → (t : Term) → termAt ts i ≡ t
       → Next f (partsOf flags ts f t)
@@ -180,7 +180,7 @@ module _ (flags : ℕ) {n : ℕ} {ts : List ℕ} {count : ℕ} (v : Valid n ts c
       step-trans first (learn-step (first .work) r (omega (arith, f .1)) (right-sure flags v (Known ts count ws) i h l r e d))
   parts-by {f} w i h m (Encrypted b k) e =
       let low = fields-of (v .terms) i h e in
-      pick-elim (Next f) (opensOf flags ts (f .known) k) (learnOf f b) f
+      cond-elim (Next f) (opensOf flags ts (f .known) k) (learnOf f b) f
       (λ o. learn-step w b (omega (arith, low .0)) (body-sure flags v (Known ts count ws) i h b k e (w .sound i h m) (key-sure flags v (Known ts count ws) (f .known) (w .sound) k (omega (arith, low .1)) o)))
       (λ _. step-refl w)
   parts-by w i h m Unknown e = step-refl w
@@ -190,7 +190,7 @@ module _ (flags : ℕ) {n : ℕ} {ts : List ℕ} {count : ℕ} (v : Valid n ts c
   module _ (f : Found) (w : Work n flags ts count ws f) (i : ℕ) (h : i < count) (m : marked (f .known) i ≡ true) where
     pub given-step : Next f (givenOf flags ts count f i)
     given-step =
-        pick-elim (Next f) (isKey (termAt ts i)) (underOf ts i count f) (partsOf flags ts f (termAt ts i))
+        cond-elim (Next f) (isKey (termAt ts i)) (underOf ts i count f) (partsOf flags ts f (termAt ts i))
         (λ _. under-step f w i count (le-refl count) (w .sound i h m)) (λ _. parts-by w i h m (termAt ts i) refl)
 
     pub given-halves : (l r : ℕ) → termAt ts i ≡ Pair l r → (marked (givenOf flags ts count f i .known) l ≡ true) × (marked (givenOf flags ts count f i .known) r ≡ true)
@@ -214,7 +214,7 @@ module _ (flags : ℕ) {n : ℕ} {ts : List ℕ} {count : ℕ} (v : Valid n ts c
   under-opens f w k (suc j) h dk e b lt q m = by (ℕ-discrete e j) (under-opens g (one .work) k j (omega arith) dk e b)
     where
       g : Found
-      g = pick (isUnder k (termAt ts j)) (decryptOf f j (termAt ts j)) f
+      g = cond (isUnder k (termAt ts j)) (decryptOf f j (termAt ts j)) f
 
       one : Next f g
       one = one-step w j k h dk

@@ -2,11 +2,10 @@
 -- Assumes nothing.
 use Prim.Native.Nat.{ℕ}
 use mathlib.Core.Path.{_≡_, refl, sym, ap, subst, _∙_}
-use mathlib.Core.Bool.{Bool, true, false}
+use mathlib.Core.Bool.{Bool, true, false, cond}
 use mathlib.Core.Logic.{_↔_}
 use lib.Dec.{eqb}
 use lib.ListN.{length}
-use Rattle.terms.specs.Choice.{pick}
 use Rattle.terms.specs.Message.{session, key}
 use Rattle.exchange.specs.declared.call.Answer.{Answer}
 use Rattle.exchange.specs.declared.call.Answer.the-variants.{Refused}
@@ -32,11 +31,11 @@ use Rattle.calls.specs.Lent.{lentCall}
 use Rattle.calls.specs.Same.{lent-called}
 
 module _ (t : Tables) (c : Call) {k : ℕ} where
-  by-check : (b : Bool) → pick b (called t c) (refuse t 10) .answer ≡ Refused k → pick b (called t c) (refuse t 10) .tables ≡ t
+  by-check : (b : Bool) → cond b (called t c) (refuse t 10) .answer ≡ Refused k → cond b (called t c) (refuse t 10) .tables ≡ t
   by-check true e = effects.refused-kept t c e
   by-check false e = refl
 
-  by-length : (b : Bool) → pick b (checked t c) (refuse t 10) .answer ≡ Refused k → pick b (checked t c) (refuse t 10) .tables ≡ t
+  by-length : (b : Bool) → cond b (checked t c) (refuse t 10) .answer ≡ Refused k → cond b (checked t c) (refuse t 10) .tables ≡ t
   unfolding checked
   by-length true e = by-check (together t) e
   by-length false e = refl

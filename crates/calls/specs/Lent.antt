@@ -1,12 +1,12 @@
 -- What a call on the caller's own tables comes to (document 01): the answer, and every table afterwards, place by place.
 -- Assumes nothing.
+use mathlib.Core.Bool.{cond}
 use Prim.Native.Nat.{ℕ}
 use mathlib.Core.Path.{_≡_}
 use mathlib.Core.List.{List}
 use lib.Dec.{eqb}
 use lib.ListN.{length}
 use borrow.Author.Tests.{eq-eqb, ne-eqb}
-use Rattle.terms.specs.Choice.{pick}
 use Rattle.exchange.specs.declared.call.Call.{Call}
 use Rattle.replay.specs.declared.entry.Entry.{Entry}
 use Rattle.realm.specs.Tables.{Tables, tables}
@@ -20,7 +20,7 @@ outcome r ts rs ws list = record { answer = r .answer; tables = tables (r .realm
 
 -- 10 for "a table lent with other than its full number of places", looked at first; else as by value
 unfoldable pub lentCall : Tables → Call → Outcome
-lentCall t c = pick (eqb (length (t .cache)) 16) (checked t c) (refuse t 10)
+lentCall t c = cond (eqb (length (t .cache)) 16) (checked t c) (refuse t 10)
 
 -- ---- by its cases
 

@@ -1,23 +1,22 @@
 -- Where two texts differ, and what is counted.
 -- Assumes nothing.
-use mathlib.Core.Bool.{Bool, true, false}
+use mathlib.Core.Bool.{Bool, true, false, cond}
 use mathlib.Core.List.{List, [], _∷_}
 use Prim.Native.Nat.{ℕ, suc}
 use lib.Dec.{eqb}
-use Rattle.terms.specs.Choice.{pick}
 use Rattle.comparison.specs.declared.Verdict.{Verdict}
 use Rattle.comparison.specs.declared.Verdict.the-variants.{Same, Line}
 
 -- the line of the byte that follows this one
 abbrev pub lineAfter : (line byte : ℕ) → ℕ
-lineAfter line byte = pick (eqb byte 10) (suc line) line
+lineAfter line byte = cond (eqb byte 10) (suc line) line
 
 -- the line of the first byte in which two texts differ, or that only one of them has
 unfoldable pub difference : (line : ℕ) → List ℕ → List ℕ → Verdict
 difference line [] [] = Same
 difference line [] (y ∷ ys) = Line line
 difference line (x ∷ xs) [] = Line line
-difference line (x ∷ xs) (y ∷ ys) = pick (eqb x y) (difference (lineAfter line x) xs ys) (Line line)
+difference line (x ∷ xs) (y ∷ ys) = cond (eqb x y) (difference (lineAfter line x) xs ys) (Line line)
 
 abbrev pub isSame : Verdict → Bool
 isSame Same = true

@@ -9,7 +9,6 @@ use native.Mathlib.Numerals.{add-one}
 use lib.ListN.{length, drop, getD, drop-of-length-le}
 use lib.Seq.{drop-cons}
 use borrow.Author.Tests.{eq-eqb, ne-eqb}
-use Rattle.terms.specs.Choice.{pick}
 use Rattle.comparison.specs.declared.Verdict.the-variants.{Same, Line}
 use Rattle.comparison.specs.Compare.{lineAfter, difference, disagreements}
 

@@ -1,14 +1,13 @@
 -- What the crate promises beside the contracts: a verdict is `Same` exactly if the two texts are the same. By the contract of
 -- `judging::judge` these are the listing that is defined for the walk file (`walkfile`, Listing) and the stored one.
 -- Assumes nothing.
-use mathlib.Core.Bool.{Bool, true, false}
+use mathlib.Core.Bool.{Bool, true, false, cond}
 use mathlib.Core.List.{List, [], _∷_}
 use mathlib.Core.Path.{_≡_, refl}
 use Prim.Native.Nat.{ℕ}
 use native.Mathlib.Omega.{arith}
 use lib.Dec.{eqb}
 use borrow.Author.Tests.{eqb-true, eq-eqb}
-use Rattle.terms.specs.Choice.{pick}
 use Rattle.comparison.specs.declared.Verdict.{Verdict}
 use Rattle.comparison.specs.declared.Verdict.the-variants.{Same, Line}
 use Rattle.comparison.specs.Compare.{lineAfter, difference}
@@ -19,7 +18,7 @@ unfolding difference
 itself line [] = refl
 itself line (x ∷ xs) = rw (eq-eqb x x refl) (itself (lineAfter line x) xs)
 
-by-first : (b : Bool) (line : ℕ) (v : Verdict) → pick b v (Line line) ≡ Same → (b ≡ true) × (v ≡ Same)
+by-first : (b : Bool) (line : ℕ) (v : Verdict) → cond b v (Line line) ≡ Same → (b ≡ true) × (v ≡ Same)
 by-first true line v e = (refl, e)
 by-first false line v e = let z : _≡_ {A = ℕ} 0 1 = cc in absurd (omega arith)
 

@@ -1,11 +1,10 @@
 -- The conditions that steps share (document 01, "What turns a record away, from the state"), as tests.
 -- Assumes nothing.
 use Prim.Native.Nat.{ℕ, _+_, _<_}
-use mathlib.Core.Bool.{Bool, not}
+use mathlib.Core.Bool.{Bool, not, cond}
 use mathlib.Core.List.{List}
 use lib.Dec.{ltb, eqb}
 use Rattle.marks.specs.Marks.{Words}
-use Rattle.terms.specs.Choice.{pick}
 use Rattle.terms.specs.Valid.{Valid}
 use Rattle.synthesis.specs.Test.{derivableOf}
 use Rattle.replay.specs.Cache.{present, entries}
@@ -33,7 +32,7 @@ authenticatorLives h ta = ltb (h .clock) (ta + h .la)
 -- 0, or the number of the refusal: 16, 17, 18 "b, K, Ta is in the cache", 19 "the cache holds 16 entries"
 unfoldable pub admission : Realm → List Entry → (ts : ℕ) → Entry → ℕ
 admission h cache ts e =
-    pick (not (ticketLives h ts)) 16
-    (pick (not (authenticatorLives h (e .ta))) 17
-    (pick (present (entries cache (h .entries)) e) 18
-    (pick (eqb (h .entries) 16) 19 0)))
+    cond (not (ticketLives h ts)) 16
+    (cond (not (authenticatorLives h (e .ta))) 17
+    (cond (present (entries cache (h .entries)) e) 18
+    (cond (eqb (h .entries) 16) 19 0)))

@@ -1,14 +1,13 @@
 -- Each way out of `admit`, and what its number says.
 -- Assumes nothing.
 use Prim.Native.Nat.{ℕ, _≤_}
-use mathlib.Core.Bool.{Bool, true, false, not}
+use mathlib.Core.Bool.{Bool, true, false, not, cond}
 use mathlib.Core.List.{List}
 use mathlib.Core.Logic.{_⊎_, inl, inr}
 use mathlib.Core.Path.{_≡_, refl}
 use native.Mathlib.Omega.{arith}
 use lib.Dec.{eqb}
 use borrow.Author.Tests.{eq-eqb, ne-eqb, eqb-false}
-use Rattle.terms.specs.Choice.{pick}
 use Rattle.replay.specs.Cache.{present, entries}
 use Rattle.replay.specs.declared.entry.Entry.{Entry}
 use Rattle.realm.specs.declared.header.Realm.{Realm}
@@ -16,7 +15,7 @@ use Rattle.conditions.specs.Conditions.{ticketLives, authenticatorLives,
 
 -- the number by its tests: ticket and authenticator live, the entry is present, the cache is full
 abbrev chosen : (a b c d : Bool) → ℕ
-chosen a b c d = pick (not a) 16 (pick (not b) 17 (pick c 18 (pick d 19 0)))
+chosen a b c d = cond (not a) 16 (cond (not b) 17 (cond c 18 (cond d 19 0)))
 
 module _ (h : Realm) (cache : List Entry) (ts : ℕ) (e : Entry) where
   pub ticket-over : ticketLives h ts ≡ false → _≡_ {A = ℕ} 16 (admission h cache ts e)

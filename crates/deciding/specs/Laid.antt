@@ -1,10 +1,10 @@
 -- What is laid out is what is sent: the messages at the roots of an effect's draft are its messages.
 -- Assumes nothing.
+use mathlib.Core.Bool.{cond}
 use Prim.Native.Nat.{ℕ}
 use mathlib.Core.List.{List, [], _∷_}
 use mathlib.Core.Path.{_≡_, refl, ap, ap₂}
 use lib.Dec.{eqb}
-use Rattle.terms.specs.Choice.{pick}
 use Rattle.terms.specs.Message.{Message}
 use Rattle.drafts.specs.declared.Node.{Node}
 use Rattle.drafts.specs.Draft.{draftMessage}
@@ -22,7 +22,7 @@ module _ (stored : ℕ → Message) where
   abbrev pub told : List Node → Roots → List Message
   told draft (At first last) =
       let m = draftMessage stored draft in
-      pick (eqb first last) (m first ∷ []) (m first ∷ m last ∷ [])
+      cond (eqb first last) (m first ∷ []) (m first ∷ m last ∷ [])
   told draft Nothing = []
 
   one : {x y : Message} → x ≡ y → _≡_ {A = List Message} (x ∷ []) (y ∷ [])

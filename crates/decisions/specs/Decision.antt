@@ -3,11 +3,10 @@
 -- the checked calls'; 4 to 6 are of the fields; then the row of the step table has its own, in rising order; 20 comes last.
 -- Assumes nothing.
 use Prim.Native.Nat.{ℕ}
-use mathlib.Core.Bool.{Bool, not, _&&_}
+use mathlib.Core.Bool.{Bool, not, _&&_, cond}
 use mathlib.Core.List.{List, [], _∷_}
 use lib.Dec.{ltb, leb, eqb}
 use lib.ListN.{getD}
-use Rattle.terms.specs.Choice.{pick}
 use Rattle.terms.specs.Meaning.{messageAt}
 use Rattle.sending.specs.Send.{fitsIn}
 use Rattle.exchange.specs.declared.run.Role.{Role}
@@ -40,7 +39,7 @@ use Rattle.decisions.specs.Effects.{opening, issuing, authenticating, ac
 
 -- the refusal of this number unless the condition holds
 abbrev pub need : Bool → ℕ → Verdict → Verdict
-need ok number v = pick ok v (Refused number)
+need ok number v = cond ok v (Refused number)
 
 -- not "64 runs exist"
 abbrev pub roomForRun : Realm → Bool

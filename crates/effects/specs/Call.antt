@@ -1,9 +1,9 @@
 -- What a call comes to (document 01): the answer, and every table afterwards, place by place. One definition for the adding of
 -- terms and for all steps; the code's promises are equations with it.
 -- Assumes nothing.
+use mathlib.Core.Bool.{cond}
 use Prim.Native.Nat.{ℕ}
 use mathlib.Core.List.{List}
-use Rattle.terms.specs.Choice.{pick}
 use Rattle.words.specs.Word.{packed}
 use Rattle.terms.specs.Add.{addOf}
 use Rattle.terms.specs.Outcome as terms
@@ -61,4 +61,4 @@ called t (calls.Step step run a b m time) = stepped t (record { step = step; run
 
 -- "10 | tables handed in do not hold together | any, before all else"
 unfoldable pub checked : Tables → Call → Outcome
-checked t c = pick (together t) (called t c) (refuse t 10)
+checked t c = cond (together t) (called t c) (refuse t 10)

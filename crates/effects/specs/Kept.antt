@@ -2,14 +2,14 @@
 -- Assumes nothing.
 use Prim.Native.Nat.{ℕ, suc}
 use mathlib.Core.Path.{_≡_, refl, sym, ap, ap₂, _∙_}
-use mathlib.Core.Bool.{Bool, true, false}
+use mathlib.Core.Bool.{Bool, true, false, cond}
 use mathlib.Core.List.{List}
 use lib.Dec.{eqb}
 use lib.ListN.{set}
 use Rattle.terms.specs.declared.table.Found.{Found}
 use Rattle.terms.specs.declared.table.Found.the-variants.{At, Nothing}
 use Rattle.terms.specs.Add.{addBy, addOf}
-use Rattle.terms.specs.Choice.{pick, no-true}
+use Rattle.terms.specs.Choice.{no-true}
 use Rattle.terms.specs.Outcome as terms
 use Rattle.terms.specs.Rules.{refusalOf}
 use Rattle.terms.specs.Table.{findOf}
@@ -39,7 +39,7 @@ ok names.Nobody = refl
 -- ---- TM
 
 module _ (ts : List ℕ) (count w : ℕ) {k : ℕ} where
-  by-room : (b : Bool) → let o = pick b (terms.refuse 20 count ts) (terms.accept count (suc count) (set ts count w)) in
+  by-room : (b : Bool) → let o = cond b (terms.refuse 20 count ts) (terms.accept count (suc count) (set ts count w)) in
       numbered (o .answer) ≡ Refused k → (o .count ≡ count) × (o .table ≡ ts)
   by-room true e = (refl, refl)
   by-room false e = never _ refl e
@@ -48,7 +48,7 @@ module _ (ts : List ℕ) (count w : ℕ) {k : ℕ} where
   by-found (At i) e = never _ refl e
   by-found Nothing e = by-room (eqb count 512) e
 
-  by-rule : (b : Bool) (r : ℕ) → let o = pick b (addBy ts count w (findOf ts count w)) (terms.refuse r count ts) in
+  by-rule : (b : Bool) (r : ℕ) → let o = cond b (addBy ts count w (findOf ts count w)) (terms.refuse r count ts) in
       numbered (o .answer) ≡ Refused k → (o .count ≡ count) × (o .table ≡ ts)
   by-rule true r e = by-found (findOf ts count w) e
   by-rule false r e = (refl, refl)

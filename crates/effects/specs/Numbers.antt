@@ -1,7 +1,7 @@
 -- No call answers 10: that number is the check's alone, which a library caller meets whose tables do not hold together.
 -- Assumes nothing.
 use Prim.Native.Nat.{ℕ, zero, suc}
-use mathlib.Core.Bool.{Bool, true, false, not, _&&_, and-eq-true-iff}
+use mathlib.Core.Bool.{Bool, true, false, not, _&&_, and-eq-true-iff, cond}
 use mathlib.Core.List.{List, [], _∷_}
 use mathlib.Core.Path.{_≡_, refl}
 use borrow.Author.Tests.{eqb-false, eq-eqb}
@@ -10,7 +10,7 @@ use lib.ListN.{set}
 use Rattle.terms.specs.declared.table.Found.{Found}
 use Rattle.terms.specs.declared.table.Found.the-variants.{At, Nothing}
 use Rattle.terms.specs.Add.{addBy, addOf}
-use Rattle.terms.specs.Choice.{pick, no-true}
+use Rattle.terms.specs.Choice.{no-true}
 use Rattle.terms.specs.Outcome as terms
 use Rattle.terms.specs.Rules.{spare, fieldsOk, refusalOf}
 use Rattle.terms.specs.Table.{findOf}
@@ -49,7 +49,7 @@ of-word : (n : ℕ) (ts : List ℕ) (at w : ℕ) → eqb (refusalOf n ts at w) 1
 unfolding refusalOf
 of-word n ts at w = by (ltb 6 (kindOf w)) (eqb (spare (termOf w) (rightOf w)) 0) (fieldsOk n ts at (termOf w))
   where
-    by : (a b d : Bool) → eqb (pick a 4 (pick b (pick d 0 6) 5)) 10 ≡ false
+    by : (a b d : Bool) → eqb (cond a 4 (cond b (cond d 0 6) 5)) 10 ≡ false
     by true b d = refl
     by false false d = refl
     by false true true = refl
@@ -60,7 +60,7 @@ module _ (n : ℕ) (ts : List ℕ) (count w : ℕ) where
   of-place (At i) = refl
   of-place Nothing = by (eqb count 512)
     where
-      by : (b : Bool) → ten (pick b (terms.refuse 20 count ts) (terms.accept count (suc count) (set ts count w)) .answer) ≡ false
+      by : (b : Bool) → ten (cond b (terms.refuse 20 count ts) (terms.accept count (suc count) (set ts count w)) .answer) ≡ false
       by true = refl
       by false = refl
 
@@ -68,7 +68,7 @@ module _ (n : ℕ) (ts : List ℕ) (count w : ℕ) where
   unfolding addOf
   of-term = by (eqb (refusalOf n ts count w) 0)
     where
-      by : (b : Bool) → ten (pick b (addBy ts count w (findOf ts count w)) (terms.refuse (refusalOf n ts count w) count ts) .answer) ≡ false
+      by : (b : Bool) → ten (cond b (addBy ts count w (findOf ts count w)) (terms.refuse (refusalOf n ts count w) count ts) .answer) ≡ false
       by true = of-place (findOf ts count w)
       by false = of-word n ts count w
 

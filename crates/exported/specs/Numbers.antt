@@ -2,9 +2,8 @@
 -- Assumes nothing.
 use Prim.Native.Nat.{ℕ}
 use mathlib.Core.Path.{_≡_}
-use mathlib.Core.Bool.{true, false}
+use mathlib.Core.Bool.{true, false, cond}
 use mathlib.Core.List.{List}
-use Rattle.terms.specs.Choice.{pick}
 use Rattle.exchange.specs.declared.call.Answer.{Answer}
 use Rattle.exchange.specs.declared.call.Answer.the-variants.{Number, OkRun, Ok, Refused}
 use Rattle.exchange.specs.declared.call.Call.{Call}
@@ -20,7 +19,7 @@ use Rattle.exported.specs.declared.Reply.{Reply}
 -- ---- a call
 
 unfoldable pub callOf : Record → Call
-callOf q = pick (q .adds) (Term (q .kind) (q .l) (q .r)) (Step (q .step) (q .run) (q .a) (q .b) (q .m) (q .t))
+callOf q = cond (q .adds) (Term (q .kind) (q .l) (q .r)) (Step (q .step) (q .run) (q .a) (q .b) (q .m) (q .t))
 
 -- ---- its answer
 

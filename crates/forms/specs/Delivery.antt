@@ -3,12 +3,11 @@
 -- kind 4, Ts and Ta of kind 1." Values that the step compares with its run's own are answered as they are.
 -- Assumes nothing.
 pub mod Laws
-use mathlib.Core.Bool.{_&&_}
+use mathlib.Core.Bool.{_&&_, cond}
 use mathlib.Core.Option.{Option, none, some}
 use Prim.Native.Nat.{ℕ}
 use lib.Dec.{eqb}
 use Rattle.traces.specs.Terms.{given}
-use Rattle.terms.specs.Choice.{pick}
 use Rattle.terms.specs.Message.{Message}
 use Rattle.layers.specs.Layers.{PRINCIPAL, TIME, LONG_TERM_KEY, SESSION_KEY, PAIR, ofKind, operands, atom, first, under, _▸_}
 use Rattle.forms.specs.declared.Authenticator.{Authenticator}
@@ -45,7 +44,7 @@ abbrev pub deliveryOf : Ticket → Authenticator → Delivery
 deliveryOf tickets.Other y = deliveries.Other
 deliveryOf (tickets.Is k a ts b) authenticators.Other = deliveries.Other
 deliveryOf (tickets.Is k a ts b) (authenticators.Is a′ ta k′) =
-    pick (eqb a′ a && eqb k′ k) (deliveries.Is k a ts b ta) deliveries.Other
+    cond (eqb a′ a && eqb k′ k) (deliveries.Is k a ts b ta) deliveries.Other
 
 unfoldable pub deliveryIn : Message → Delivery
 deliveryIn m = given (ofKind PAIR operands m) deliveries.Other (λ p. deliveryOf (ticketIn (p .0)) (authenticatorIn (p .1)))

@@ -2,11 +2,11 @@
 -- with what is left. A form is then written as the paper writes it, `first PRINCIPAL ▸ first PRINCIPAL ▸ atom NONCE`, and
 -- one law for `▸` and one for each kind of layer say which messages have it.
 -- Assumes nothing.
+use mathlib.Core.Bool.{cond}
 use mathlib.Core.Option.{Option, none, some}
 use Prim.Native.Nat.{ℕ}
 use lib.Dec.{eqb}
 use Rattle.traces.specs.Terms.{given}
-use Rattle.terms.specs.Choice.{pick}
 use Rattle.terms.specs.Message.{longTerm, session, Message, principal, time, nonce, key, pair, encrypted}
 
 -- "A term has a kind and operands L and R": the table of kinds
@@ -61,7 +61,7 @@ operands (encrypted m k) = (m, key k)
 
 -- what f reads of a message, if that is of this kind
 unfoldable pub ofKind : {A : Type 0} → ℕ → (Message → A) → Message → Option A
-ofKind k f m = pick (eqb (kind m) k) (some (f m)) none
+ofKind k f m = cond (eqb (kind m) k) (some (f m)) none
 
 -- the number of a principal, a time, a nonce or a key
 abbrev pub atom : ℕ → Message → Option ℕ

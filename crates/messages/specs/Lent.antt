@@ -2,7 +2,7 @@
 -- read off `entered`, which knows no limit, and 20 is given exactly where they do not all fit in 512.
 -- Assumes nothing.
 use mathlib.Core.Path.{_≡_, sym, ap, ap₂, _∙_}
-use mathlib.Core.Bool.{true, false, _&&_}
+use mathlib.Core.Bool.{true, false, _&&_, cond}
 use mathlib.Core.List.{List, _++_, append-nil}
 use Prim.Native.Nat.{ℕ, _+_, _<_, _≤_}
 use native.Mathlib.Omega.{arith}
@@ -14,7 +14,6 @@ use Rattle.messages.specs.declared.lent.Stored.{Stored}
 use Rattle.messages.specs.declared.lent.Stored.the-variants.{At, Refused}
 use Rattle.messages.specs.declared.plan.Plan.{Plan}
 use Rattle.drafts.specs.Draft.{draftMessage, draftFits}
-use Rattle.terms.specs.Choice.{pick}
 use Rattle.terms.specs.Meaning.{messageAt}
 use Rattle.terms.specs.Message.{Message}
 use Rattle.terms.specs.Number.{numberIn, termsOf, terms-list}
@@ -36,14 +35,14 @@ over xs ts = xs ++ drop (length xs) ts
 
 -- the terms xs, m among them, laid over the table; 20 if "the new terms do not all fit"
 abbrev pub laid : (xs : List ℕ) (m : Message) (count : ℕ) (ts : List ℕ) → Outcome
-laid xs m count ts = pick (leb (length xs) 512) (accept (numberIn xs m) (length xs) (over xs ts)) (refuse 20 count ts)
+laid xs m count ts = cond (leb (length xs) 512) (accept (numberIn xs m) (length xs) (over xs ts)) (refuse 20 count ts)
 
 -- 10 for tables that do not hold together, 6 for a draft with a field out of range or a part that is not present, then 20
 unfoldable pub addMessageOf : (n : ℕ) (ts : List ℕ) (count : ℕ) (draft : List Node) (root : ℕ) → Outcome
 addMessageOf n ts count draft root =
     let m = draftMessage (messageAt ts) draft root in
-    pick (holds n ts count)
-    (pick (ltb root 16 && draftFits n count draft) (laid (entered (termsOf ts count) m) m count ts) (refuse 6 count ts))
+    cond (holds n ts count)
+    (cond (ltb root 16 && draftFits n count draft) (laid (entered (termsOf ts count) m) m count ts) (refuse 6 count ts))
     (refuse 10 count ts)
 
 -- ---- the start of a plan

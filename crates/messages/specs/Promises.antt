@@ -4,7 +4,7 @@
 -- crate `drafts`.
 -- Assumes nothing.
 use mathlib.Core.Path.{_≡_, refl, sym, ap, _∙_}
-use mathlib.Core.Bool.{Bool, true, false, _&&_, and-eq-true-iff}
+use mathlib.Core.Bool.{Bool, true, false, _&&_, and-eq-true-iff, cond}
 use mathlib.Core.List.{List}
 use Prim.Native.Nat.{ℕ, _<_, _≤_}
 use native.Mathlib.Omega.{arith}
@@ -15,7 +15,6 @@ use lib.Seq.{drop-append-seam}
 use Rattle.drafts.specs.declared.Node.{Node}
 use Rattle.drafts.specs.Draft.{draftMessage, draftFits}
 use Rattle.drafts.specs.Writes.{Writes, draft-writes}
-use Rattle.terms.specs.Choice.{pick}
 use Rattle.terms.specs.Meaning.{messageAt, messages-same}
 use Rattle.terms.specs.Message.{Message}
 use Rattle.terms.specs.Number.{numberIn, termsOf, terms-length, terms-agree, terms-list}
@@ -61,7 +60,7 @@ never r k i m ts vs e =
     absurd (omega arith)
 
 accepted : (a b c : Bool) (x y k i m : ℕ) (us ts vs : List ℕ)
-    → pick a (pick b (pick c (accept x y us) (refuse 20 k ts)) (refuse 6 k ts)) (refuse 10 k ts) ≡ accept i m vs → Accepted a b c x y i m us vs
+    → cond a (cond b (cond c (accept x y us) (refuse 20 k ts)) (refuse 6 k ts)) (refuse 10 k ts) ≡ accept i m vs → Accepted a b c x y i m us vs
 accepted true true true x y k i m us ts vs e =
     let q = ap (λ (o : Outcome). o .answer) e in
     record {

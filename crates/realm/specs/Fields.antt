@@ -3,10 +3,10 @@
 -- Assumes nothing.
 use Prim.Native.Nat.{ℕ, _<_}
 use mathlib.Core.Path.{_≡_, refl}
-use mathlib.Core.Bool.{Bool, true, false, not, _||_}
+use mathlib.Core.Bool.{Bool, true, false, not, _||_, cond}
 use borrow.Author.Tests.{ltb-true, eqb-true}
 use lib.Dec.{ltb, eqb}
-use Rattle.terms.specs.Choice.{pick, no-true}
+use Rattle.terms.specs.Choice.{no-true}
 use Rattle.terms.specs.AllOf.{five}
 use Rattle.runs.specs.Lent.{PrincipalsFit, principalsFit}
 use Rattle.runs.specs.Promises.{principals-decided}
@@ -26,9 +26,9 @@ callOf s = calls.Step (s .step) (s .run) (s .a) (s .b) (s .m) (s .t)
 -- the call with 0 for each field that is not used
 abbrev pub cleared : Uses → Step → Call
 cleared u s =
-    calls.Step (s .step) (pick (u .run) (s .run) 0) (pick (u .a) (s .a) 0) (pick (u .b) (s .b) 0) (pick (u .m) (s .m) 0) (pick (u .t) (s .t) 0)
+    calls.Step (s .step) (cond (u .run) (s .run) 0) (cond (u .a) (s .a) 0) (cond (u .b) (s .b) 0) (cond (u .m) (s .m) 0) (cond (u .t) (s .t) 0)
 
-kept-or-zero : (used : Bool) (x : ℕ) → (used || eqb x 0) ≡ true → x ≡ pick used x 0
+kept-or-zero : (used : Bool) (x : ℕ) → (used || eqb x 0) ≡ true → x ≡ cond used x 0
 kept-or-zero true x e = refl
 kept-or-zero false x e = eqb-true x 0 e
 

@@ -5,11 +5,10 @@ use Prim.Native.Nat.{ℕ, _<_, _≤_}
 use mathlib.Core.Path.{_≡_, refl, sym}
 use native.Mathlib.Omega.{arith}
 use borrow.Author.Tests.{le-leb, lt-leb, leb-true}
-use mathlib.Core.Bool.{Bool, true, false, not, _&&_, _||_, and-eq-true-iff}
+use mathlib.Core.Bool.{Bool, true, false, not, _&&_, _||_, and-eq-true-iff, cond}
 use mathlib.Core.List.{List, [], _∷_}
 use lib.Dec.{ltb, leb, eqb}
 use lib.ListN.{getD, List·getD-eq-default}
-use Rattle.terms.specs.Choice.{pick}
 use Rattle.runs.specs.Lent.{principalsFit}
 use Rattle.realm.specs.declared.header.Realm.{Realm}
 use Rattle.realm.specs.declared.input.Step.{Step}
@@ -70,7 +69,7 @@ inRange h u s =
 -- 0, or the number of the refusal: 4 "step outside 1 to 10", then 5 and 6
 unfoldable pub inputRefusal : Realm → Step → ℕ
 inputRefusal h s =
-    pick (leb 1 (s .step) && leb (s .step) 10) (pick (unusedZero (usesOf (s .step)) s) (pick (inRange h (usesOf (s .step)) s) 0 6) 5) 4
+    cond (leb 1 (s .step) && leb (s .step) 10) (cond (unusedZero (usesOf (s .step)) s) (cond (inRange h (usesOf (s .step)) s) 0 6) 5) 4
 
 -- a number that is no step uses no field
 pub past-uses : (step : ℕ) → 10 < step → usesOf step ≡ none
@@ -96,7 +95,7 @@ module _ (h : Realm) (s : Step) where
     unfolding inputRefusal
     not-zero e = picked _ _ (inRange h (usesOf (s .step)) s) step e
       where
-        picked : (a b c : Bool) → a ≡ true → b ≡ false → _≡_ {A = ℕ} 5 (pick a (pick b (pick c 0 6) 5) 4)
+        picked : (a b c : Bool) → a ≡ true → b ≡ false → _≡_ {A = ℕ} 5 (cond a (cond b (cond c 0 6) 5) 4)
         picked a b c p q = rw (p, q)
 
     module _ (zero : unusedZero (usesOf (s .step)) s ≡ true) where
@@ -104,14 +103,14 @@ module _ (h : Realm) (s : Step) where
       unfolding inputRefusal
       not-in-range e = picked _ _ _ step zero e
         where
-          picked : (a b c : Bool) → a ≡ true → b ≡ true → c ≡ false → _≡_ {A = ℕ} 6 (pick a (pick b (pick c 0 6) 5) 4)
+          picked : (a b c : Bool) → a ≡ true → b ≡ true → c ≡ false → _≡_ {A = ℕ} 6 (cond a (cond b (cond c 0 6) 5) 4)
           picked a b c p q r = rw (p, q, r)
 
       pub passes : inRange h (usesOf (s .step)) s ≡ true → _≡_ {A = ℕ} 0 (inputRefusal h s)
       unfolding inputRefusal
       passes e = picked _ _ _ step zero e
         where
-          picked : (a b c : Bool) → a ≡ true → b ≡ true → c ≡ true → _≡_ {A = ℕ} 0 (pick a (pick b (pick c 0 6) 5) 4)
+          picked : (a b c : Bool) → a ≡ true → b ≡ true → c ≡ true → _≡_ {A = ℕ} 0 (cond a (cond b (cond c 0 6) 5) 4)
           picked a b c p q r = rw (p, q, r)
 
 -- ---- what a step that passes has
@@ -122,7 +121,7 @@ pub record Passed (h : Realm) (s : Step) : Type 0 where
   pub unused : unusedZero (usesOf (s .step)) s ≡ true
   pub range : inRange h (usesOf (s .step)) s ≡ true
 
-all-three : (a b c : Bool) → _≡_ {A = ℕ} (pick a (pick b (pick c 0 6) 5) 4) 0 → (a ≡ true) × (b ≡ true) × (c ≡ true)
+all-three : (a b c : Bool) → _≡_ {A = ℕ} (cond a (cond b (cond c 0 6) 5) 4) 0 → (a ≡ true) × (b ≡ true) × (c ≡ true)
 all-three true true true e = (refl, refl, refl)
 all-three true true false e = absurd (omega arith)
 all-three true false c e = absurd (omega arith)

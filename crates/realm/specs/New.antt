@@ -3,13 +3,13 @@
 -- Assumes nothing.
 use Prim.Native.Nat.{ℕ, _^_, _<_}
 use mathlib.Core.Path.{_≡_, refl, sym, ap, subst, _∙_}
-use mathlib.Core.Bool.{Bool, true, false}
+use mathlib.Core.Bool.{Bool, true, false, cond}
 use mathlib.Core.List.{List}
 use native.Mathlib.Omega.{arith}
 use lib.ListN.{length, replicate}
 use Rattle.marks.specs.Empty.{empty-words, empty-marked}
 use Rattle.marks.specs.Marks.{Words, marked}
-use Rattle.terms.specs.Choice.{pick, no-true}
+use Rattle.terms.specs.Choice.{no-true}
 use Rattle.terms.specs.Valid.{Valid}
 use Rattle.runs.specs.Promises.{hold-none}
 use Rattle.realm.specs.declared.header.Opening.the-variants.{Open, Refused}
@@ -31,7 +31,7 @@ pub opened-is : (n flags ls la : ℕ) (h : Realm) → openingOf n flags ls la �
 unfolding openingOf
 opened-is n flags ls la h o = by (headerFits n flags ls la) o
   where
-    by : (b : Bool) → pick b (Open (newRealm n flags ls la)) (Refused 2) ≡ Open h → (b ≡ true) × (newRealm n flags ls la ≡ h)
+    by : (b : Bool) → cond b (Open (newRealm n flags ls la)) (Refused 2) ≡ Open h → (b ≡ true) × (newRealm n flags ls la ≡ h)
     by true e = (refl, cc)
     by false e = let z : _≡_ {A = ℕ} 0 1 = cc in absurd (omega arith)
 

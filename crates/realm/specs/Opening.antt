@@ -4,10 +4,9 @@ use Prim.Native.Nat.{ℕ, _/_, _^_, _<_, _≤_}
 use mathlib.Core.Path.{_≡_}
 use native.Mathlib.Omega.{arith}
 use borrow.Author.Tests.{le-leb, lt-leb}
-use mathlib.Core.Bool.{Bool, true, false, not, _&&_}
+use mathlib.Core.Bool.{Bool, true, false, not, _&&_, cond}
 use lib.Dec.{ltb, leb, eqb}
 use Rattle.marks.specs.Marks.{isSet}
-use Rattle.terms.specs.Choice.{pick}
 use Rattle.traces.specs.Realm as exchange
 use Rattle.realm.specs.declared.header.Opening.{Opening}
 use Rattle.realm.specs.declared.header.Opening.the-variants.{Open, Refused}
@@ -29,7 +28,7 @@ newRealm n flags ls la =
 
 unfoldable pub openingOf : (n flags ls la : ℕ) → Opening
 openingOf n flags ls la =
-    pick (headerFits n flags ls la) (Open (newRealm n flags ls la)) (Refused 2)
+    cond (headerFits n flags ls la) (Open (newRealm n flags ls la)) (Refused 2)
 
 -- ---- by the way out
 

@@ -2,14 +2,14 @@
 -- record first (the empty file too)".
 -- Assumes nothing.
 use mathlib.Core.Path.{_≡_}
-use mathlib.Core.Bool.{true, false}
+use mathlib.Core.Bool.{true, false, cond}
 use mathlib.Core.List.{List}
 use Prim.Native.Nat.{ℕ, _^_, _<_, _≤_}
 use native.Mathlib.Omega.{arith}
 use borrow.Author.Tests.{lt-ltb, le-ltb, ltb-true, ltb-false}
 use lib.Dec.{ltb}
 use lib.ListN.{length}
-use Rattle.terms.specs.Choice.{pick, pick-elim}
+use Rattle.terms.specs.Choice.{cond-elim}
 use Rattle.records.specs.declared.header.Header.{Header}
 use Rattle.records.specs.declared.header.Header.the-variants.{Read, Refused}
 use Rattle.records.specs.Fields.{Bytes, byte, number16, number32, begins, begins-whole, small16, small32}
@@ -31,7 +31,7 @@ fieldsOf bytes = Read (byte bytes 2) (number16 bytes 3) (number32 bytes 5) (numb
 
 -- the header of a file, or refusal 1
 unfoldable pub headerOf : List ℕ → Header
-headerOf bytes = pick (ltb maxFile (length bytes)) (Refused 1) (pick (begins headerMark headerBytes bytes) (fieldsOf bytes) (Refused 1))
+headerOf bytes = cond (ltb maxFile (length bytes)) (Refused 1) (cond (begins headerMark headerBytes bytes) (fieldsOf bytes) (Refused 1))
 
 -- ---- one law for each way out
 
@@ -59,9 +59,9 @@ pub data Finds (bytes : List ℕ) : Header → Type 0 where
 pub header-finds : (bytes : List ℕ) → Finds bytes (headerOf bytes)
 unfolding headerOf
 header-finds bytes =
-    pick-elim (Finds bytes) (ltb maxFile (length bytes)) (Refused 1) (pick (begins headerMark headerBytes bytes) (fieldsOf bytes) (Refused 1))
+    cond-elim (Finds bytes) (ltb maxFile (length bytes)) (Refused 1) (cond (begins headerMark headerBytes bytes) (fieldsOf bytes) (Refused 1))
     (λ h. too-long (ltb-true maxFile (length bytes) h))
-    (λ h. let short = ltb-false maxFile (length bytes) h in pick-elim (Finds bytes) (begins headerMark headerBytes bytes) (fieldsOf bytes) (Refused 1)
+    (λ h. let short = ltb-false maxFile (length bytes) h in cond-elim (Finds bytes) (begins headerMark headerBytes bytes) (fieldsOf bytes) (Refused 1)
     (a-header short) (no-header short))
 
 -- a file whose header was read

@@ -2,7 +2,7 @@
 -- other than TM or ST after the first record, or a record cut short".
 -- Assumes nothing.
 use mathlib.Core.Path.{_≡_, ap, _∙_}
-use mathlib.Core.Bool.{true, false}
+use mathlib.Core.Bool.{true, false, cond}
 use mathlib.Core.List.{List}
 use Prim.Native.Nat.{ℕ, _+_, _-_, _<_, _≤_}
 use native.Mathlib.Omega.{arith}
@@ -10,7 +10,7 @@ use borrow.Author.Tests.{eq-eqb, ne-eqb, eqb-true, eqb-false}
 use lib.Dec.{eqb}
 use lib.ListN.{length, take, drop, length-drop}
 use lib.Seq.{take-all}
-use Rattle.terms.specs.Choice.{pick, pick-elim}
+use Rattle.terms.specs.Choice.{cond-elim}
 use Rattle.exchange.specs.declared.call.Call.{Call}
 use Rattle.exchange.specs.declared.call.Call.the-variants.{Term, Step}
 use Rattle.records.specs.declared.record.Record.{Record}
@@ -47,9 +47,9 @@ pub data Front : Type 0 where
 
 unfoldable pub frontOf : List ℕ → Front
 frontOf bytes =
-    pick (eqb (length bytes) 0) none
-    (pick (begins termMark termBytes bytes) (whole (termOf bytes) termBytes)
-    (pick (begins stepMark stepBytes bytes) (whole (stepOf bytes) stepBytes)
+    cond (eqb (length bytes) 0) none
+    (cond (begins termMark termBytes bytes) (whole (termOf bytes) termBytes)
+    (cond (begins stepMark stepBytes bytes) (whole (stepOf bytes) stepBytes)
     unreadable))
 
 -- the same, where the rest begins at a place of the file
@@ -98,9 +98,9 @@ front-finds bytes =
     let step = whole (stepOf bytes) stepBytes in
     let is-term = begins termMark termBytes bytes in
     let term = whole (termOf bytes) termBytes in
-    pick-elim (Finds bytes) (eqb (length bytes) 0) none (pick is-term term (pick is-step step unreadable)) (λ e. at-end (eqb-true (length bytes) 0 e))
-    (λ some. pick-elim (Finds bytes) is-term term (pick is-step step unreadable) at-term
-    (λ n. pick-elim (Finds bytes) is-step step unreadable at-step
+    cond-elim (Finds bytes) (eqb (length bytes) 0) none (cond is-term term (cond is-step step unreadable)) (λ e. at-end (eqb-true (length bytes) 0 e))
+    (λ some. cond-elim (Finds bytes) is-term term (cond is-step step unreadable) at-term
+    (λ n. cond-elim (Finds bytes) is-step step unreadable at-step
     (λ m. at-fault (positive (eqb-false (length bytes) 0 some)) n m)))
   where
     positive : (length bytes ≡ 0 → ⊥) → 0 < length bytes

@@ -4,12 +4,12 @@ use mathlib.Core.Path.{_≡_, refl, sym, _∙_, ap}
 use Prim.Native.Nat.{ℕ, zero, suc, _+_, _-_, _<_, _≤_}
 use native.Mathlib.Numerals.{add-one}
 use native.Mathlib.Omega.{arith}
-use mathlib.Core.Bool.{Bool, true, false}
+use mathlib.Core.Bool.{Bool, true, false, cond}
 use mathlib.Core.List.{List, [], _∷_, _++_, append-assoc, append-nil}
 use lib.ListN.{length, getD, take, drop, set, replicate, length-append, length-replicate}
 use lib.Seq.{length-take-le, drop-cons, take-suc, getD-at, set-at}
 use Rattle.replay.specs.declared.entry.Entry.{Entry}
-use Rattle.replay.specs.Cache.{choose, empty, filter, written}
+use Rattle.replay.specs.Cache.{empty, filter, written}
 use Rattle.replay.specs.Cache.Entries.{filter-append, filter-length}
 use Rattle.replay.specs.Cache.Places.{written-fewer}
 
@@ -48,7 +48,7 @@ module _ (q : Entry → Bool) (list : List Entry) where
     freed : set (written list i (read i)) i empty ≡ read i ++ (empty ∷ (zeros ++ rest))
     freed = rw split (set-at (read i ++ zeros) x rest empty i front ∙ append-assoc (read i) zeros (empty ∷ rest) ∙ ap (λ (r : List Entry). read i ++ r) (empty-first (i - length (read i)) rest))
 
-    read-next : read (i + 1) ≡ read i ++ choose (q x) (x ∷ []) []
+    read-next : read (i + 1) ≡ read i ++ cond (q x) (x ∷ []) []
     read-next = rw (add-one i, take-suc list i empty l) (filter-append q (take i list) (x ∷ []))
 
     -- the list one entry later, where ys are kept then
@@ -56,13 +56,13 @@ module _ (q : Entry → Bool) (list : List Entry) where
     later ys n e m k = rw (e, add-one i) (written-fewer list (suc i) ys m ∙ ap (λ (j : ℕ). ys ++ (replicate j empty ++ rest)) k)
 
     read-gone : q x ≡ false → read (i + 1) ≡ read i
-    read-gone h = read-next ∙ ap (λ (t : Bool). read i ++ choose t (x ∷ []) []) h ∙ append-nil (read i)
+    read-gone h = read-next ∙ ap (λ (t : Bool). read i ++ cond t (x ∷ []) []) h ∙ append-nil (read i)
 
     written-gone : q x ≡ false → set (written list i (read i)) i empty ≡ written list (i + 1) (read (i + 1))
     written-gone h = freed ∙ sym (later (read i) (suc (i - length (read i))) (read-gone h) (omega (arith, kept-below)) (omega (arith, kept-below)))
 
     read-kept : q x ≡ true → read (i + 1) ≡ read i ++ (x ∷ [])
-    read-kept h = read-next ∙ ap (λ (t : Bool). read i ++ choose t (x ∷ []) []) h
+    read-kept h = read-next ∙ ap (λ (t : Bool). read i ++ cond t (x ∷ []) []) h
 
     written-kept : q x ≡ true → set (set (written list i (read i)) i empty) (length (read i)) x ≡ written list (i + 1) (read (i + 1))
     written-kept h =

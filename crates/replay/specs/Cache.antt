@@ -6,7 +6,7 @@ pub mod Calls
 pub mod Entries
 pub mod Places
 use Prim.Native.Nat.{ℕ, _+_, _-_}
-use mathlib.Core.Bool.{Bool, true, false, not, _&&_, _||_}
+use mathlib.Core.Bool.{Bool, false, not, _&&_, _||_, cond}
 use mathlib.Core.List.{List, [], _∷_, _++_}
 use lib.Dec.{eqb, leb}
 use lib.ListN.{length, take, drop, replicate}
@@ -15,10 +15,6 @@ use Rattle.replay.specs.declared.entry.Entry.{Entry}
 use Rattle.replay.specs.declared.entry.Purge.{Purge}
 use Rattle.replay.specs.declared.entry.Answer.{Answer}
 use Rattle.replay.specs.declared.entry.Answer.the-variants.{Count, Refused}
-
-abbrev pub choose : {X : Type 0} → Bool → X → X → X
-choose true x y = x
-choose false x y = y
 
 -- ---- entries
 
@@ -42,7 +38,7 @@ stays p x = not (eqb (x .b) (p .b) && leb (x .ta + p .la) (p .clock))
 -- the entries that pass a test: "the rest keep their order"
 abbrev pub filter : (Entry → Bool) → List Entry → List Entry
 filter q [] = []
-filter q (x ∷ xs) = choose (q x) (x ∷ filter q xs) (filter q xs)
+filter q (x ∷ xs) = cond (q x) (x ∷ filter q xs) (filter q xs)
 
 unfoldable pub kept : Purge → List Entry → List Entry
 kept p xs = filter (stays p) xs
@@ -89,13 +85,13 @@ holding list count xs = let s = becomes list count xs in accepted (s .count) (s 
 -- "remember then 18 or 19 as in step 5", which "remembers b, K, Ta"
 unfoldable pub remembered : List Entry → ℕ → Entry → Outcome
 remembered list count e =
-    choose (not (fits list count)) (refused 10 list)
-    (choose (present (entries list count) e) (refused 18 list)
-    (choose (eqb count 16) (refused 19 list)
+    cond (not (fits list count)) (refused 10 list)
+    (cond (present (entries list count) e) (refused 18 list)
+    (cond (eqb count 16) (refused 19 list)
     (holding list count (entries list count ++ (e ∷ [])))))
 
 -- step 8
 unfoldable pub forgotten : List Entry → ℕ → Purge → Outcome
 forgotten list count p =
-    choose (not (fits list count)) (refused 10 list)
+    cond (not (fits list count)) (refused 10 list)
     (holding list count (kept p (entries list count)))

@@ -1,7 +1,7 @@
 -- What holds after messages were sent, or refused, and where sending changes no term.
 -- Assumes nothing.
 use mathlib.Core.Path.{_≡_, refl, sym, ap, _∙_, subst}
-use mathlib.Core.Bool.{Bool, true, false}
+use mathlib.Core.Bool.{Bool, true, false, cond}
 use mathlib.Core.List.{List, [], _∷_, List·Memᴰ, Memᴰ·cast}
 use mathlib.Core.Logic.{_⊎_, inl, inr}
 use Prim.Native.Nat.{ℕ, _<_, _≤_}
@@ -13,7 +13,6 @@ use lib.ListN.{length, drop, take-append-drop}
 use lib.Seq.{drop-append-seam, take-append-seam, length-take-le}
 use Rattle.drafts.specs.Writes.{Writes}
 use Rattle.marks.specs.Marks.{Words, marked, withMark}
-use Rattle.terms.specs.Choice.{pick}
 use Rattle.terms.specs.Meaning.{messageAt, messages-same}
 use Rattle.terms.specs.Message.{Message}
 use Rattle.terms.specs.Number.{numberIn, termsOf, terms-length, terms-agree, terms-list, terms-message}
@@ -33,12 +32,12 @@ use Rattle.sending.specs.Full.{all-too-long}
 
 -- ---- what an outcome says
 
-accepted : (b : Bool) (c k : ℕ) (us vs ts ws ts′ ws′ : List ℕ) → pick b (sent c us vs) (refused 20 ts ws) ≡ sent k ts′ ws′
+accepted : (b : Bool) (c k : ℕ) (us vs ts ws ts′ ws′ : List ℕ) → cond b (sent c us vs) (refused 20 ts ws) ≡ sent k ts′ ws′
     → (b ≡ true) × (k ≡ c) × (ts′ ≡ us) × (ws′ ≡ vs)
 accepted true c k us vs ts ws ts′ ws′ e = (refl, (cc), (cc), (cc))
 accepted false c k us vs ts ws ts′ ws′ e = let z : _≡_ {A = ℕ} 0 1 = cc in absurd (omega arith)
 
-denied : (b : Bool) (c k : ℕ) (us vs ts ws ts′ ws′ : List ℕ) → pick b (sent c us vs) (refused 20 ts ws) ≡ refused k ts′ ws′
+denied : (b : Bool) (c k : ℕ) (us vs ts ws ts′ ws′ : List ℕ) → cond b (sent c us vs) (refused 20 ts ws) ≡ refused k ts′ ws′
     → (b ≡ false) × (k ≡ 20) × (ts′ ≡ ts) × (ws′ ≡ ws)
 denied true c k us vs ts ws ts′ ws′ e = let z : _≡_ {A = ℕ} 0 1 = cc in absurd (omega arith)
 denied false c k us vs ts ws ts′ ws′ e = (refl, (cc), (cc), (cc))
@@ -205,5 +204,5 @@ module _ {n : ℕ} {ts : List ℕ} {count : ℕ} (v : Valid n ts count) (ws : Li
       by-room : Dec (length xs ≤ 512) → sending ts ws (entered xs m) (m ∷ m ∷ []) ≡ sending ts ws xs (m ∷ [])
       by-room (yes le) =
           ap (λ (ys : List ℕ). sending ts ws ys (m ∷ m ∷ [])) (entered-again small m w (termsOf ts count) (terms-list v) le)
-          ∙ ap (λ (us : List ℕ). pick (leb (length xs) 512) (sent (length xs) (over xs ts) us) (refused 20 ts ws)) (with-again ws (numberIn xs m))
+          ∙ ap (λ (us : List ℕ). cond (leb (length xs) 512) (sent (length xs) (over xs ts) us) (refused 20 ts ws)) (with-again ws (numberIn xs m))
       by-room (no gt) = rw (lt-leb (length xs) 512 (omega arith), lt-leb (length (entered xs m)) 512 (omega (arith, longer-entered xs m .more)))

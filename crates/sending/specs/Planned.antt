@@ -1,7 +1,7 @@
 -- The plan of two nodes, one after the other, and what comes of it: the law by which `plan_messages` meets its contract.
 -- Assumes nothing.
 use mathlib.Core.Path.{_≡_, refl, sym, ap, ap₂, _∙_, subst}
-use mathlib.Core.Bool.{Bool, true, false}
+use mathlib.Core.Bool.{Bool, true, false, cond}
 use mathlib.Core.List.{List, [], _∷_, _++_}
 use Prim.Native.Nat.{ℕ, _+_, _<_, _≤_}
 use native.Mathlib.Omega.{arith}
@@ -9,7 +9,6 @@ use borrow.Author.Tests.{le-leb}
 use lib.Dec.{leb}
 use lib.ListN.{length, drop, take-append-drop}
 use Rattle.drafts.specs.Writes.{draft-writes}
-use Rattle.terms.specs.Choice.{pick}
 use Rattle.terms.specs.Message.{Message}
 use Rattle.terms.specs.Number.{numberIn, termsOf, terms-list}
 use Rattle.terms.specs.Valid.{valid-holds}
@@ -101,7 +100,7 @@ none-marked e ws = rw e
 
 -- where nothing is sent nothing is planned
 module _ (ts : List ℕ) (count : ℕ) (size : length ts ≡ 512) (room : count ≤ 512) where
-  no-more : (ws : List ℕ) → pick (leb count 512) (sent count ts ws) (refused 20 ts ws) ≡ sent count ts ws
+  no-more : (ws : List ℕ) → cond (leb count 512) (sent count ts ws) (refused 20 ts ws) ≡ sent count ts ws
   no-more ws = rw (le-leb count 512 room)
 
   pub nothing-planned : {p : Plan} → Fresh p → PlanFor ts count [] (record { plan = p; marks = Nothing })
@@ -112,7 +111,7 @@ module _ (ts : List ℕ) (count : ℕ) (size : length ts ≡ 512) (room : count 
         few = omega (arith, f .empty);
         marks = λ le. tt;
         sends = λ ws.
-            ap₂ (λ (k : ℕ) (us : List ℕ). pick (leb k 512) (sent k us ws) (refused 20 ts ws)) all same ∙ no-more ws ∙ sym (send-nothing ts ws count size room);
+            ap₂ (λ (k : ℕ) (us : List ℕ). cond (leb k 512) (sent k us ws) (refused 20 ts ws)) all same ∙ no-more ws ∙ sym (send-nothing ts ws count size room);
       }
 
 -- ---- a plan that is for messages
@@ -123,7 +122,7 @@ unfolding sendOf
 send-room ts ws count ms e = rw e
 
 same-room : (a b : Bool) (k : ℕ) (us vs : List ℕ) (k′ : ℕ) (us′ vs′ ts ws : List ℕ)
-    → pick a (sent k us vs) (refused 20 ts ws) ≡ pick b (sent k′ us′ vs′) (refused 20 ts ws) → a ≡ b
+    → cond a (sent k us vs) (refused 20 ts ws) ≡ cond b (sent k′ us′ vs′) (refused 20 ts ws) → a ≡ b
 same-room true true k us vs k′ us′ vs′ ts ws e = refl
 same-room true false k us vs k′ us′ vs′ ts ws e = let z : _≡_ {A = ℕ} 0 1 = cc in absurd (omega arith)
 same-room false true k us vs k′ us′ vs′ ts ws e = let z : _≡_ {A = ℕ} 0 1 = cc in absurd (omega arith)
@@ -140,5 +139,5 @@ module _ {ts : List ℕ} {count : ℕ} {ms : List Message} {r : Prepared} (p : P
 
   pub plan-sent : count + r .plan .count ≤ 512 → (ws : List ℕ)
       → sent (count + r .plan .count) (written ts count (r .plan)) (markedBy (r .marks) ws) ≡ sendOf ts ws count ms
-  plan-sent le ws = subst (λ (b : Bool). pick b (sent (count + r .plan .count) (written ts count (r .plan)) (markedBy (r .marks) ws)) (refused 20 ts ws) ≡ sendOf ts ws count ms)
+  plan-sent le ws = subst (λ (b : Bool). cond b (sent (count + r .plan .count) (written ts count (r .plan)) (markedBy (r .marks) ws)) (refused 20 ts ws) ≡ sendOf ts ws count ms)
       (le-leb (count + r .plan .count) 512 le) (p .sends ws)

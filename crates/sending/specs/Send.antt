@@ -2,7 +2,7 @@
 -- messages: their terms are entered one message after another, and where they do not all fit nothing changes.
 -- Assumes nothing.
 use mathlib.Core.Path.{_≡_}
-use mathlib.Core.Bool.{Bool, true}
+use mathlib.Core.Bool.{Bool, true, cond}
 use mathlib.Core.List.{List, [], _∷_, List·Memᴰ}
 use mathlib.Core.Logic.{_↔_, _⊎_}
 use Prim.Native.Nat.{ℕ, _+_, _<_, _≤_}
@@ -12,7 +12,6 @@ use Rattle.drafts.specs.declared.Node.{Node}
 use Rattle.drafts.specs.Draft.{draftFits}
 use Rattle.drafts.specs.Writes.{Writes}
 use Rattle.marks.specs.Marks.{Words, marked, withMark}
-use Rattle.terms.specs.Choice.{pick}
 use Rattle.terms.specs.Meaning.{messageAt}
 use Rattle.terms.specs.Message.{Message}
 use Rattle.terms.specs.Number.{numberIn, termsOf}
@@ -24,7 +23,6 @@ use Rattle.messages.specs.Listed.{addAll}
 use Rattle.messages.specs.Meanings.{meanings}
 use Rattle.messages.specs.Standing.{Standing}
 use Rattle.deduction.specs.Known.{Known}
-use Rattle.messages.specs.declared.plan.Plan.{Plan}
 use Rattle.messages.specs.Plan.{written}
 use Rattle.sending.specs.declared.Marks.{Marks}
 use Rattle.sending.specs.declared.Marks.the-variants.{Two, Nothing}
@@ -55,7 +53,7 @@ fitsIn ts count ms = leb (length (enteredAll (termsOf ts count) ms)) 512
 
 -- "When a step needs a message, its terms are added"; 20 if "the new terms do not all fit"
 abbrev pub sending : (ts ws xs : List ℕ) → List Message → Sending
-sending ts ws xs ms = pick (leb (length xs) 512) (sent (length xs) (over xs ts) (markedAll ws xs ms)) (refused 20 ts ws)
+sending ts ws xs ms = cond (leb (length xs) 512) (sent (length xs) (over xs ts) (markedAll ws xs ms)) (refused 20 ts ws)
 
 unfoldable pub sendOf : (ts ws : List ℕ) (count : ℕ) → List Message → Sending
 sendOf ts ws count ms = sending ts ws (enteredAll (termsOf ts count) ms) ms
@@ -74,7 +72,7 @@ markedBy Nothing ws = ws
 abbrev pub comes : (ts ws : List ℕ) (count : ℕ) → Prepared → Sending
 comes ts ws count r =
     let all = count + r .plan .count in
-    pick (leb all 512) (sent all (written ts count (r .plan)) (markedBy (r .marks) ws)) (refused 20 ts ws)
+    cond (leb all 512) (sent all (written ts count (r .plan)) (markedBy (r .marks) ws)) (refused 20 ts ws)
 
 -- a plan is for these messages: writing it is sending them
 pub record PlanFor (ts : List ℕ) (count : ℕ) (ms : List Message) (r : Prepared) : Type 0 where

@@ -3,12 +3,12 @@
 -- Assumes nothing.
 use Prim.Native.Nat.{ℕ, _+_}
 use mathlib.Core.Path.{_≡_, refl, sym, ap, ap₂, _∙_}
-use mathlib.Core.Bool.{Bool, true, false, not, _&&_}
+use mathlib.Core.Bool.{Bool, true, false, not, _&&_, cond}
 use mathlib.Core.List.{List, [], _∷_, _++_, map, List·Memᴰ, List·Memᴰ·head, List·Memᴰ·tail}
 use borrow.Author.Tests.{eqb-true, eqb-false, eq-eqb, ne-eqb}
 use lib.Dec.{eqb, leb}
 use Rattle.terms.specs.Choice.{no-true}
-use Rattle.replay.specs.Cache.{choose, present, stays, filter, kept}
+use Rattle.replay.specs.Cache.{present, stays, filter, kept}
 use Rattle.replay.specs.Promises.{present-exactly}
 use Rattle.replay.specs.declared.entry.Entry as replay
 use Rattle.replay.specs.declared.entry.Purge.{Purge}
@@ -66,7 +66,7 @@ eqb-swap x y = on (eqb x y) refl
     on false e = sym (ne-eqb y x (λ q. eqb-false x y e (sym q)))
 
 chosen : (x : replay.Entry) (goes : Bool) (xs : List replay.Entry)
-    → map logged (choose (not goes) (x ∷ xs) xs) ≡ keepUnless goes (logged x) (map logged xs)
+    → map logged (cond (not goes) (x ∷ xs) xs) ≡ keepUnless goes (logged x) (map logged xs)
 chosen x true xs = refl
 chosen x false xs = refl
 

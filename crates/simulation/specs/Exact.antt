@@ -3,7 +3,7 @@
 -- Assumes nothing.
 use Prim.Native.Nat.{ℕ, _≤_}
 use mathlib.Core.Path.{_≡_, refl, sym, ap, _∙_, subst}
-use mathlib.Core.Bool.{Bool, true, false}
+use mathlib.Core.Bool.{Bool, true, false, cond}
 use mathlib.Core.List.{List}
 use mathlib.Core.Logic.{_↔_}
 use mathlib.Core.Option.{some}
@@ -12,7 +12,6 @@ use lib.Dec.{leb}
 use lib.ListN.{length}
 use Rattle.words.specs.Word.{packed}
 use Rattle.terms.specs.Add.{addOf}
-use Rattle.terms.specs.Choice.{pick}
 use Rattle.terms.specs.Message.{Message}
 use Rattle.terms.specs.Number.{termsOf}
 use Rattle.messages.specs.Lent.{over}
@@ -76,7 +75,7 @@ took-told (took9 v) = refl
 took-told (took10 d) = refl
 
 -- what was sent fits
-sent-fits : (b : Bool) (c : ℕ) (us vs ts ws : List ℕ) {k : ℕ} {ts′ ws′ : List ℕ} → pick b (sent c us vs) (refused 20 ts ws) ≡ sent k ts′ ws′ → b ≡ true
+sent-fits : (b : Bool) (c : ℕ) (us vs ts ws : List ℕ) {k : ℕ} {ts′ ws′ : List ℕ} → cond b (sent c us vs) (refused 20 ts ws) ≡ sent k ts′ ws′ → b ≡ true
 sent-fits true c us vs ts ws e = refl
 sent-fits false c us vs ts ws e = let z : _≡_ {A = ℕ} 0 1 = cc in absurd (omega arith)
 

@@ -3,7 +3,7 @@
 -- Assumes nothing.
 use Prim.Native.Nat.{ℕ, zero, suc, _+_, _^_, _<_, _≤_}
 use mathlib.Core.Path.{_≡_, refl, sym, ap, ap₂, _∙_, subst}
-use mathlib.Core.Bool.{Bool, true, false}
+use mathlib.Core.Bool.{Bool, true, false, cond}
 use mathlib.Core.List.{List, [], _∷_, _++_, List·Memᴰ, List·Memᴰ·not-nil}
 use mathlib.Core.Logic.{_↔_, _⊎_, inl, ⊎-elim}
 use mathlib.Core.Option.{some}
@@ -17,7 +17,6 @@ use Rattle.words.specs.Word.{packed, termBy}
 use Rattle.terms.specs.declared.table.Found.{Found}
 use Rattle.terms.specs.declared.table.Found.the-variants as found
 use Rattle.terms.specs.Add.{addOf, addBy, Extends, AddedIs, adds}
-use Rattle.terms.specs.Choice.{pick}
 use Rattle.terms.specs.Meaning.{keyOf, messageOf, messageAt, message-at, messages-same, key-at}
 use Rattle.terms.specs.Message.{Message, key}
 use Rattle.terms.specs.Number.{messages-once}
@@ -69,7 +68,7 @@ module _ (n : ℕ) (ts : List ℕ) (count w : ℕ) where
   accepted-by r (found.At i) = (r, omega arith, λ h. absurd (omega arith))
   accepted-by r found.Nothing = by-room (eqb count 512)
     where
-      by-room : (b : Bool) → let o = pick b (refuse 20 count ts) (accept count (suc count) (set ts count w)) in Accepted n ts count w (o .answer) (o .count)
+      by-room : (b : Bool) → let o = cond b (refuse 20 count ts) (accept count (suc count) (set ts count w)) in Accepted n ts count w (o .answer) (o .count)
       by-room true = tt
       by-room false = (r, omega arith, λ h. refl)
 
@@ -78,7 +77,7 @@ module _ (n : ℕ) (ts : List ℕ) (count w : ℕ) where
   accepted = by-rule (eqb (refusalOf n ts count w) 0) refl
     where
       by-rule : (b : Bool) → eqb (refusalOf n ts count w) 0 ≡ b
-          → let o = pick b (addBy ts count w (findOf ts count w)) (refuse (refusalOf n ts count w) count ts) in Accepted n ts count w (o .answer) (o .count)
+          → let o = cond b (addBy ts count w (findOf ts count w)) (refuse (refusalOf n ts count w) count ts) in Accepted n ts count w (o .answer) (o .count)
       by-rule true q = accepted-by (eqb-true (refusalOf n ts count w) 0 q) (findOf ts count w)
       by-rule false q = tt
 

@@ -3,7 +3,7 @@
 -- Assumes nothing.
 use Prim.Native.Nat.{ℕ, zero, suc, _<_, _≤_}
 use mathlib.Core.Path.{_≡_, refl, sym, ap, ap₂, _∙_}
-use mathlib.Core.Bool.{Bool, true, false}
+use mathlib.Core.Bool.{Bool, true, false, cond}
 use mathlib.Core.List.{List, [], _∷_}
 use mathlib.Core.Option.{Option, none, some}
 use native.Mathlib.Omega.{arith}
@@ -15,7 +15,6 @@ use Rattle.words.specs.Word.{packed, termBy, wordOf}
 use Rattle.terms.specs.declared.table.Found.{Found}
 use Rattle.terms.specs.declared.table.Found.the-variants as found
 use Rattle.terms.specs.Add.{addBy, addOf}
-use Rattle.terms.specs.Choice.{pick}
 use Rattle.terms.specs.Meaning.{messageOf, messageAt, message-at, key-at, key-inv}
 use Rattle.terms.specs.Message.{Key, Message, principal, time, nonce, key, pair, encrypted}
 use Rattle.terms.specs.Number.{wordIn, numberIn, word-of, word-at, number-at, termsOf, terms-length, terms-agree, terms-list, terms-message}
@@ -138,7 +137,7 @@ module _ {n : ℕ} {ts : List ℕ} {count : ℕ} (v : Valid n ts count) where
     by-found room (found.At i) h = refl
     by-found room found.Nothing h = by (eqb count 512) refl
       where
-        by : (b : Bool) → eqb count 512 ≡ b → accepts (numbered (pick b (terms.refuse 20 count ts) (terms.accept count (suc count) (set ts count w)) .answer)) ≡ true
+        by : (b : Bool) → eqb count 512 ≡ b → accepts (numbered (cond b (terms.refuse 20 count ts) (terms.accept count (suc count) (set ts count w)) .answer)) ≡ true
         by true e = absurd (omega (arith, some-room room h, eqb-true count 512 e))
         by false e = refl
 

@@ -3,7 +3,7 @@
 -- Assumes nothing.
 use mathlib.Core.Path.{_≡_, refl, sym, ap, _∙_, subst}
 use mathlib.Core.Logic.{_⊎_, ⊎-elim}
-use mathlib.Core.Bool.{Bool, true}
+use mathlib.Core.Bool.{Bool, true, cond}
 use mathlib.Core.List.{List}
 use Prim.Native.Nat.{ℕ, zero, suc, _*_, _<_, _≤_}
 use native.Mathlib.Decide.{ℕ-discrete}
@@ -14,7 +14,7 @@ use Rattle.marks.specs.Grown.{Grown, grown-refl, grown-trans, grown-with}
 use Rattle.marks.specs.Marks.{Words, marked, withMark, size, marked-same, marked-keeps, marked-new, with-length}
 use Rattle.words.specs.declared.Term.{Term}
 use Rattle.words.specs.declared.Term.the-variants.{Principal, Time, Nonce, LongTermKey, SessionKey, Pair, Encrypted, Unknown}
-use Rattle.terms.specs.Choice.{pick, pick-elim}
+use Rattle.terms.specs.Choice.{cond-elim}
 use Rattle.terms.specs.Message.{Message}
 use Rattle.terms.specs.Rules.{termAt, Fields}
 use Rattle.terms.specs.Valid.{Valid, fields-at, fields-of}
@@ -30,11 +30,11 @@ partsOf flags ts ws (Nonce k) = ws
 partsOf flags ts ws (LongTermKey p) = ws
 partsOf flags ts ws (SessionKey k) = ws
 partsOf flags ts ws (Pair l r) = withMark (withMark ws l) r
-partsOf flags ts ws (Encrypted b k) = pick (opensOf flags ts ws k) (withMark ws b) ws
+partsOf flags ts ws (Encrypted b k) = cond (opensOf flags ts ws k) (withMark ws b) ws
 partsOf flags ts ws Unknown = ws
 
 unfoldable pub visitOf : ℕ → List ℕ → List ℕ → ℕ → List ℕ
-visitOf flags ts ws i = pick (marked ws i) (partsOf flags ts ws (termAt ts i)) ws
+visitOf flags ts ws i = cond (marked ws i) (partsOf flags ts ws (termAt ts i)) ws
 
 -- the terms below m, the last first
 unfoldable pub sweepOf : ℕ → List ℕ → ℕ → List ℕ → List ℕ
@@ -54,14 +54,14 @@ parts-grown n flags ts at w h (Pair l r) f =
     let g = grown-with w l (omega (arith, f .0)) in
     grown-trans g (grown-with (g .words) r (omega (arith, f .1)))
 parts-grown n flags ts at {ws} w h (Encrypted b k) f =
-    pick-elim (Grown 8 ws) (opensOf flags ts ws k) (withMark ws b) ws (λ _. grown-with w b (omega (arith, f .0))) (λ _. grown-refl w)
+    cond-elim (Grown 8 ws) (opensOf flags ts ws k) (withMark ws b) ws (λ _. grown-with w b (omega (arith, f .0))) (λ _. grown-refl w)
 parts-grown n flags ts at w h Unknown f = grown-refl w
 
 module _ (flags : ℕ) {n : ℕ} {ts : List ℕ} {count : ℕ} (v : Valid n ts count) where
   visit-grown : {ws : List ℕ} → Words 8 ws → (i : ℕ) → i < count → Grown 8 ws (visitOf flags ts ws i)
   unfolding visitOf
   visit-grown {ws} w i h =
-      pick-elim (Grown 8 ws) (marked ws i) (partsOf flags ts ws (termAt ts i)) ws
+      cond-elim (Grown 8 ws) (marked ws i) (partsOf flags ts ws (termAt ts i)) ws
       (λ _. parts-grown n flags ts i w (omega (arith, v .room)) (termAt ts i) (fields-at (v .terms) i h)) (λ _. grown-refl w)
 
   pub sweep-grown : (m : ℕ) → m ≤ count → {ws : List ℕ} → Words 8 ws → Grown 8 ws (sweepOf flags ts m ws)
@@ -101,7 +101,7 @@ module _ (flags : ℕ) {n : ℕ} {ts : List ℕ} {count : ℕ} (v : Valid n ts c
   parts-idle : (i : ℕ) → i < count → marked ws i ≡ true → (t : Term) → termAt ts i ≡ t → partsOf flags ts ws t ≡ ws
   unfolding visitOf
   parts-idle i h m t e =
-      ap (partsOf flags ts ws) (sym e) ∙ ap (λ (b : Bool). pick b (partsOf flags ts ws (termAt ts i)) ws) (sym m) ∙ idle i h
+      ap (partsOf flags ts ws) (sym e) ∙ ap (λ (b : Bool). cond b (partsOf flags ts ws (termAt ts i)) ws) (sym m) ∙ idle i h
 
   pub idle-saturated : Saturated flags ts count ws
   idle-saturated = record { halves = halves; bodies = bodies }
@@ -121,7 +121,7 @@ module _ (flags : ℕ) {n : ℕ} {ts : List ℕ} {count : ℕ} (v : Valid n ts c
       bodies i b k h m e o =
           let f = fields-of (v .terms) i h e in
           let p = parts-idle i h m (Encrypted b k) e in
-          let q : withMark ws b ≡ ws = ap (λ (c : Bool). pick c (withMark ws b) ws) (sym (opens-if flags ts ws k o)) ∙ p in
+          let q : withMark ws b ≡ ws = ap (λ (c : Bool). cond c (withMark ws b) ws) (sym (opens-if flags ts ws k o)) ∙ p in
           subst (λ (x : List ℕ). marked x b ≡ true) q (marked-same ws b (omega (arith, v .room, f .0, w .len)))
 
 -- a sweep over all terms that adds none
@@ -153,14 +153,14 @@ module _ (flags : ℕ) {n : ℕ} {ts : List ℕ} {count : ℕ} (v : Valid n ts c
       with-sound (grown-with w l hl .words) r hr (with-sound w l hl s (left-sure flags v Wire i h l r e d)) (right-sure flags v Wire i h l r e d)
   parts-sound {ws} w s i h d (Encrypted b k) e =
       let f = fields-of (v .terms) i h e in
-      pick-elim Sound (opensOf flags ts ws k) (withMark ws b) ws
+      cond-elim Sound (opensOf flags ts ws k) (withMark ws b) ws
       (λ o. with-sound w b (omega (arith, v .room, f .0)) s (body-sure flags v Wire i h b k e d (key-sure flags v Wire ws s k (omega (arith, f .1)) o))) (λ _. s)
   parts-sound w s i h d Unknown e = s
 
   visit-sound : {ws : List ℕ} → Words 8 ws → Sound ws → (i : ℕ) → i < count → Sound (visitOf flags ts ws i)
   unfolding visitOf
   visit-sound {ws} w s i h =
-      pick-elim Sound (marked ws i) (partsOf flags ts ws (termAt ts i)) ws (λ m. parts-sound w s i h (s i h m) (termAt ts i) refl) (λ _. s)
+      cond-elim Sound (marked ws i) (partsOf flags ts ws (termAt ts i)) ws (λ m. parts-sound w s i h (s i h m) (termAt ts i) refl) (λ _. s)
 
   pub sweep-sound : (m : ℕ) → m ≤ count → {ws : List ℕ} → Words 8 ws → Sound ws → Sound (sweepOf flags ts m ws)
   unfolding sweepOf

@@ -2,14 +2,14 @@
 -- remembers what it put together; the answer is the same, since both decide `Derivable`.
 -- Assumes nothing.
 use mathlib.Core.Path.{_≡_, refl, subst}
-use mathlib.Core.Bool.{Bool, true, false, _&&_}
+use mathlib.Core.Bool.{Bool, true, false, _&&_, cond}
 use mathlib.Core.List.{List}
 use Prim.Native.Nat.{ℕ, zero, suc, _-_, _<_}
 use native.Mathlib.Omega.{arith}
 use borrow.Author.Tests.{eqb-true, eqb-false}
 use lib.Dec.{eqb}
 use Rattle.marks.specs.Marks.{Words, marked, size}
-use Rattle.terms.specs.Choice.{pick, Decides, pick-elim, proved, refuted, same-answer}
+use Rattle.terms.specs.Choice.{Decides, cond-elim, proved, refuted, same-answer}
 use Rattle.terms.specs.Descend.{layers, descend}
 use Rattle.terms.specs.Meaning.{messageAt}
 use Rattle.terms.specs.Rules.{termAt}
@@ -31,7 +31,7 @@ unfoldable pub saturateOf : (flags : ℕ) (ts : List ℕ) (count fuel : ℕ) (ws
 saturateOf flags ts count zero ws = ws
 saturateOf flags ts count (suc fuel) ws =
     let next = sweepOf flags ts count ws in
-    pick (eqb (size next) (size ws)) ws (saturateOf flags ts count fuel next)
+    cond (eqb (size next) (size ws)) ws (saturateOf flags ts count fuel next)
 
 -- both operands can be put together, or an atom is public
 abbrev pub madeOf : (ℕ → Bool) → Bool → Operands → Bool
@@ -40,7 +40,7 @@ madeOf sub free Atom = free
 
 -- term t is in the set or can be made, given the answers on its operands
 abbrev pub composeBy : (flags : ℕ) (ts ws : List ℕ) (t : ℕ) → (ℕ → Bool) → Bool
-composeBy flags ts ws t sub = pick (marked ws t) true (madeOf sub (publicOf flags (termAt ts t)) (operandsOf (termAt ts t)))
+composeBy flags ts ws t sub = cond (marked ws t) true (madeOf sub (publicOf flags (termAt ts t)) (operandsOf (termAt ts t)))
 
 -- term t can be put together from the set
 unfoldable pub composesOf : (flags : ℕ) (ts ws : List ℕ) (t : ℕ) → Bool
@@ -58,7 +58,7 @@ unfolding saturateOf
 saturate-fills flags v zero f h = absurd (omega arith)
 saturate-fills flags {n} {ts} {count} v {ws} (suc fuel) {s} f h =
     let next = sweepOf flags ts count s in
-    pick-elim (Filled n flags ts count ws) (eqb (size next) (size s)) s (saturateOf flags ts count fuel next)
+    cond-elim (Filled n flags ts count ws) (eqb (size next) (size s)) s (saturateOf flags ts count fuel next)
     (λ e. fill-done flags v f (eqb-true (size next) (size s) e))
     (λ e. saturate-fills flags v fuel (fill-more flags v f) (omega (arith, h, fill-less flags v f (eqb-false (size next) (size s) e))))
 
@@ -83,7 +83,7 @@ module _ (flags : ℕ) {n : ℕ} {ts : List ℕ} {count : ℕ} (v : Valid n ts c
   layers-decide zero t lt h = absurd (omega arith)
   layers-decide (suc depth) t lt h =
       let sub = layers false (composeBy flags ts ws) depth in
-      pick-elim (λ (b : Bool). Decides b (Composable n flags ts count ws t)) (marked ws t) true
+      cond-elim (λ (b : Bool). Decides b (Composable n flags ts count ws t)) (marked ws t) true
       (madeOf sub (publicOf flags (termAt ts t)) (operandsOf (termAt ts t)))
       (λ m. proved (composable-known n flags ts count ws t h m))
       (λ m. made t h m sub (λ k below. layers-decide depth k (omega arith) (omega arith)) (operandsOf (termAt ts t)) refl)

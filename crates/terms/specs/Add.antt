@@ -2,7 +2,7 @@
 -- nothing"; refusal 20: "the new terms do not all fit"): the answer, and the table after it, every place of it.
 -- Assumes nothing.
 use mathlib.Core.Path.{_≡_, refl, sym, ap, _∙_}
-use mathlib.Core.Bool.{Bool, true, false}
+use mathlib.Core.Bool.{Bool, true, false, cond}
 use mathlib.Core.List.{List}
 use Prim.Native.Nat.{ℕ, suc, _<_, _≤_}
 use native.Mathlib.Omega.{arith}
@@ -14,7 +14,6 @@ use Rattle.terms.specs.declared.table.Added.{Added}
 use Rattle.terms.specs.declared.table.Added.the-variants.{Old, New, Refused}
 use Rattle.terms.specs.declared.table.Found.{Found}
 use Rattle.terms.specs.declared.table.Found.the-variants.{At, Nothing}
-use Rattle.terms.specs.Choice.{pick}
 use Rattle.terms.specs.Outcome.{Answer, number, refused, Outcome, accept, refuse}
 use Rattle.terms.specs.Rules.{refusalOf, refusal-same, Agree}
 use Rattle.terms.specs.Table.{findOf, found-at}
@@ -31,12 +30,12 @@ outcome (Refused r) count ts = refuse r count ts
 -- by what the search found: "adding one that is present gives its number and changes nothing"; a new one goes behind the others
 abbrev pub addBy : (ts : List ℕ) (count w : ℕ) → Found → Outcome
 addBy ts count w (At i) = accept i count ts
-addBy ts count w Nothing = pick (eqb count 512) (refuse 20 count ts) (accept count (suc count) (set ts count w))
+addBy ts count w Nothing = cond (eqb count 512) (refuse 20 count ts) (accept count (suc count) (set ts count w))
 
 -- the refusals of the term rules come before 20
 unfoldable pub addOf : (n : ℕ) (ts : List ℕ) (count w : ℕ) → Outcome
 addOf n ts count w =
-    pick (eqb (refusalOf n ts count w) 0) (addBy ts count w (findOf ts count w)) (refuse (refusalOf n ts count w) count ts)
+    cond (eqb (refusalOf n ts count w) 0) (addBy ts count w (findOf ts count w)) (refuse (refusalOf n ts count w) count ts)
 
 -- ---- a longer table: the terms before stay, and the rules are kept
 
@@ -90,7 +89,7 @@ module _ {n : ℕ} {ts : List ℕ} {count : ℕ} (v : Valid n ts count) (w : ℕ
       record { is = (p .0, p .1, extends-refl (v .terms)); valid = v }
   by-found r Nothing e = by-room (eqb count 512) refl
     where
-      by-room : (b : Bool) → eqb count 512 ≡ b → Adds n ts count w (pick b (refuse 20 count ts) (accept count (suc count) (set ts count w)))
+      by-room : (b : Bool) → eqb count 512 ≡ b → Adds n ts count w (cond b (refuse 20 count ts) (accept count (suc count) (set ts count w)))
       by-room true q = kept 20
       by-room false q =
           let room : count < 512 = omega (arith, v .room, eqb-false count 512 q) in
@@ -103,7 +102,7 @@ module _ {n : ℕ} {ts : List ℕ} {count : ℕ} (v : Valid n ts count) (w : ℕ
   adds = by-rule (eqb (refusalOf n ts count w) 0) refl
     where
       by-rule : (b : Bool) → eqb (refusalOf n ts count w) 0 ≡ b
-          → Adds n ts count w (pick b (addBy ts count w (findOf ts count w)) (refuse (refusalOf n ts count w) count ts))
+          → Adds n ts count w (cond b (addBy ts count w (findOf ts count w)) (refuse (refusalOf n ts count w) count ts))
       by-rule true q = by-found (eqb-true (refusalOf n ts count w) 0 q) (findOf ts count w) refl
       by-rule false q = kept (refusalOf n ts count w)
 

@@ -1,13 +1,9 @@
--- Choices by a Bool, and what a Bool that was computed says. Definitions that follow the code's tests are made of these.
+-- What a Bool that was computed says, of the tests (`&&`, `cond`) that definitions which follow the code are made of.
 -- Assumes nothing.
 use mathlib.Core.Path.{_≡_, refl, sym}
-use mathlib.Core.Bool.{Bool, true, false, _&&_, false≢true}
+use mathlib.Core.Bool.{Bool, true, false, _&&_, false≢true, cond}
 
 -- ---- definitions
-
-abbrev pub pick : {A : Type 0} → Bool → A → A → A
-pick true a b = a
-pick false a b = b
 
 -- the answer of a test is true exactly where P holds
 pub record Decides (answer : Bool) (P : Type 0) : Type 0 where
@@ -24,9 +20,9 @@ pub is-false : (b : Bool) → (b ≡ true → ⊥) → false ≡ b
 is-false true f = absurd (f refl)
 is-false false f = refl
 
-pub pick-elim : {A : Type 0} (P : A → Type 0) (c : Bool) (a b : A) → (c ≡ true → P a) → (c ≡ false → P b) → P (pick c a b)
-pick-elim P true a b f g = f refl
-pick-elim P false a b f g = g refl
+pub cond-elim : {A : Type 0} (P : A → Type 0) (c : Bool) (a b : A) → (c ≡ true → P a) → (c ≡ false → P b) → P (cond c a b)
+cond-elim P true a b f g = f refl
+cond-elim P false a b f g = g refl
 
 -- behind a test, only what the test lets pass matters
 pub and-same : (a b c : Bool) → (a ≡ true → b ≡ c) → a && b ≡ a && c

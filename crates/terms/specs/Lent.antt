@@ -1,7 +1,7 @@
 -- The answers of the public calls on a lent term table: 10 first, for one that does not hold together.
 -- Assumes nothing.
 use mathlib.Core.Path.{_≡_, sym, ap}
-use mathlib.Core.Bool.{true, false}
+use mathlib.Core.Bool.{true, false, cond}
 use mathlib.Core.List.{List}
 use Prim.Native.Nat.{ℕ}
 use Rattle.terms.specs.declared.lent.Lookup.{Lookup}
@@ -9,7 +9,6 @@ use Rattle.terms.specs.declared.lent.Lookup.the-variants as lookup
 use Rattle.terms.specs.declared.table.Found.{Found}
 use Rattle.terms.specs.declared.table.Found.the-variants.{At, Nothing}
 use Rattle.terms.specs.Add.{addOf}
-use Rattle.terms.specs.Choice.{pick}
 use Rattle.terms.specs.Outcome.{Outcome, refuse}
 use Rattle.terms.specs.Table.{findOf}
 use Rattle.terms.specs.Valid.{holds}
@@ -20,11 +19,11 @@ lookupBy Nothing = lookup.Nothing
 
 -- the number of the term w, or that it is not there
 unfoldable pub lookupOf : (n : ℕ) (ts : List ℕ) (count w : ℕ) → Lookup
-lookupOf n ts count w = pick (holds n ts count) (lookupBy (findOf ts count w)) (lookup.Refused 10)
+lookupOf n ts count w = cond (holds n ts count) (lookupBy (findOf ts count w)) (lookup.Refused 10)
 
 -- adding the term w
 unfoldable pub addTermOf : (n : ℕ) (ts : List ℕ) (count w : ℕ) → Outcome
-addTermOf n ts count w = pick (holds n ts count) (addOf n ts count w) (refuse 10 count ts)
+addTermOf n ts count w = cond (holds n ts count) (addOf n ts count w) (refuse 10 count ts)
 
 -- ---- by what the check says
 

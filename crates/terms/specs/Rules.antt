@@ -2,7 +2,7 @@
 -- (document 01, "Terms" and "What turns a record away, from the input").
 -- Assumes nothing.
 use mathlib.Core.Path.{_≡_, refl, ap, _∙_}
-use mathlib.Core.Bool.{Bool, true, false, _&&_, and-eq-true-iff}
+use mathlib.Core.Bool.{Bool, true, false, _&&_, and-eq-true-iff, cond}
 use mathlib.Core.List.{List}
 use Prim.Native.Nat.{ℕ, zero, suc, _+_, _*_, _<_, _≤_}
 use native.Mathlib.Omega.{arith}
@@ -11,7 +11,7 @@ use lib.Dec.{ltb, leb, eqb}
 use lib.ListN.{getD}
 use Rattle.words.specs.declared.Term.{Term}
 use Rattle.words.specs.declared.Term.the-variants.{Principal, Time, Nonce, LongTermKey, SessionKey, Pair, Encrypted, Unknown}
-use Rattle.terms.specs.Choice.{pick, and-same, no-true}
+use Rattle.terms.specs.Choice.{and-same, no-true}
 use Rattle.words.specs.Word.{kindOf, leftOf, rightOf, termBy, termOf, wordOf}
 
 -- ---- definitions
@@ -55,7 +55,7 @@ fieldsOk n ts at Unknown = false
 -- 0, or the number of the refusal: 4 "kind above 6", 5 "a field the record does not use is not 0", 6 as above
 unfoldable pub refusalOf : (n : ℕ) (ts : List ℕ) (at word : ℕ) → ℕ
 refusalOf n ts at w =
-    pick (ltb 6 (kindOf w)) 4 (pick (eqb (spare (termOf w) (rightOf w)) 0) (pick (fieldsOk n ts at (termOf w)) 0 6) 5)
+    cond (ltb 6 (kindOf w)) 4 (cond (eqb (spare (termOf w) (rightOf w)) 0) (cond (fieldsOk n ts at (termOf w)) 0 6) 5)
 
 -- ---- what a word that passes has
 
@@ -65,7 +65,7 @@ pub record Passed (n : ℕ) (ts : List ℕ) (at w : ℕ) : Type 0 where
   pub unused : spare (termOf w) (rightOf w) ≡ 0
   pub fields : fieldsOk n ts at (termOf w) ≡ true
 
-picked : (a b d : Bool) → _≡_ {A = ℕ} (pick a 4 (pick b (pick d 0 6) 5)) 0 → (a ≡ false) × (b ≡ true) × (d ≡ true)
+picked : (a b d : Bool) → _≡_ {A = ℕ} (cond a 4 (cond b (cond d 0 6) 5)) 0 → (a ≡ false) × (b ≡ true) × (d ≡ true)
 picked true b d e = absurd (omega arith)
 picked false false d e = absurd (omega arith)
 picked false true false e = absurd (omega arith)
@@ -160,4 +160,4 @@ fields-same n ts ts′ at g Unknown = refl
 pub refusal-same : (n : ℕ) (ts ts′ : List ℕ) (at w : ℕ) → Agree ts ts′ at → refusalOf n ts at w ≡ refusalOf n ts′ at w
 unfolding refusalOf
 refusal-same n ts ts′ at w g =
-    ap (λ (f : Bool). pick (ltb 6 (kindOf w)) 4 (pick (eqb (spare (termOf w) (rightOf w)) 0) (pick f 0 6) 5)) (fields-same n ts ts′ at g (termOf w))
+    ap (λ (f : Bool). cond (ltb 6 (kindOf w)) 4 (cond (eqb (spare (termOf w) (rightOf w)) 0) (cond f 0 6) 5)) (fields-same n ts ts′ at g (termOf w))

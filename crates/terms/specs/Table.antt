@@ -2,7 +2,7 @@
 -- that keeps the rules no word stands twice, so the way does not show.
 -- Assumes nothing.
 use mathlib.Core.Path.{_≡_, refl, ap, _∙_, subst}
-use mathlib.Core.Bool.{Bool, true, false}
+use mathlib.Core.Bool.{Bool, true, false, cond}
 use mathlib.Core.List.{List, _++_}
 use Prim.Native.Nat.{ℕ, zero, suc, _+_, _-_, _<_}
 use native.Mathlib.Decide.{ℕ-discrete}
@@ -14,7 +14,7 @@ use lib.ListN.{getD, length}
 use lib.Seq.{getD-append-add}
 use Rattle.terms.specs.declared.table.Found.{Found}
 use Rattle.terms.specs.declared.table.Found.the-variants.{At, Nothing}
-use Rattle.terms.specs.Choice.{pick, pick-elim}
+use Rattle.terms.specs.Choice.{cond-elim}
 use Rattle.terms.specs.Rules.{Agree}
 
 -- ---- definitions
@@ -22,7 +22,7 @@ use Rattle.terms.specs.Rules.{Agree}
 -- the place of w among the first m words
 unfoldable pub findOf : List ℕ → (m w : ℕ) → Found
 findOf ts zero w = Nothing
-findOf ts (suc m) w = pick (eqb (getD ts m 0) w) (At m) (findOf ts m w)
+findOf ts (suc m) w = cond (eqb (getD ts m 0) w) (At m) (findOf ts m w)
 
 -- none of the first m words is w
 abbrev pub Absent : List ℕ → (m w : ℕ) → Type 0
@@ -46,7 +46,7 @@ pub found-is : (ts : List ℕ) (m w : ℕ) → FoundIs ts m w (findOf ts m w)
 unfolding findOf
 found-is ts zero w = λ k lt e. omega arith
 found-is ts (suc m) w =
-    pick-elim (FoundIs ts (suc m) w) (eqb (getD ts m 0) w) (At m) (findOf ts m w)
+    cond-elim (FoundIs ts (suc m) w) (eqb (getD ts m 0) w) (At m) (findOf ts m w)
     (λ e. (omega arith, eqb-true (getD ts m 0) w e))
     (λ e. found-more ts m w (eqb-false (getD ts m 0) w e) (findOf ts m w) (found-is ts m w))
 
@@ -85,21 +85,21 @@ pub find-same : (ts ts′ : List ℕ) (m w : ℕ) → Agree ts ts′ m → findO
 unfolding findOf
 find-same ts ts′ zero w g = refl
 find-same ts ts′ (suc m) w g =
-    rw (g m (omega arith)) (ap (λ (f : Found). pick (eqb (getD ts′ m 0) w) (At m) f) (find-same ts ts′ m w (λ k lt. g k (omega arith))))
+    rw (g m (omega arith)) (ap (λ (f : Found). cond (eqb (getD ts′ m 0) w) (At m) f) (find-same ts ts′ m w (λ k lt. g k (omega arith))))
 
 -- first among the words behind, then in front
 abbrev pub behind : ℕ → Found → Found → Found
 behind len (At j) f = At (len + j)
 behind len Nothing f = f
 
-behind-pick : (t : Bool) (len m : ℕ) (g f : Found) → pick t (At (len + m)) (behind len g f) ≡ behind len (pick t (At m) g) f
-behind-pick true len m g f = refl
-behind-pick false len m g f = refl
+behind-cond : (t : Bool) (len m : ℕ) (g f : Found) → cond t (At (len + m)) (behind len g f) ≡ behind len (cond t (At m) g) f
+behind-cond true len m g f = refl
+behind-cond false len m g f = refl
 
 pub find-append : (xs ys : List ℕ) (m w : ℕ) → findOf (xs ++ ys) (length xs + m) w ≡ behind (length xs) (findOf ys m w) (findOf (xs ++ ys) (length xs) w)
 unfolding findOf
 find-append xs ys zero w = ap (λ (k : ℕ). findOf (xs ++ ys) k w) (add-zero (length xs))
 find-append xs ys (suc m) w =
     rw (add-suc, getD-append-add)
-    (ap (λ (f : Found). pick (eqb (getD ys m 0) w) (At (length xs + m)) f) (find-append xs ys m w)
-    ∙ behind-pick (eqb (getD ys m 0) w) (length xs) m (findOf ys m w) (findOf (xs ++ ys) (length xs) w))
+    (ap (λ (f : Found). cond (eqb (getD ys m 0) w) (At (length xs + m)) f) (find-append xs ys m w)
+    ∙ behind-cond (eqb (getD ys m 0) w) (length xs) m (findOf ys m w) (findOf (xs ++ ys) (length xs) w))

@@ -1,6 +1,6 @@
 -- The buffer after `list`: the laws that callers use, from the equation of its contract.
 -- Assumes nothing.
-use mathlib.Core.Bool.{Bool, true, false}
+use mathlib.Core.Bool.{Bool, true, false, cond}
 use mathlib.Core.List.{List}
 use mathlib.Core.Path.{_≡_, sym, ap}
 use Prim.Native.Nat.{ℕ, _<_}
@@ -9,7 +9,6 @@ use native.Mathlib.Omega.{arith}
 use lib.Dec.{ltb}
 use lib.ListN.{length, take, drop, length-take}
 use Rattle.io.specs.Counts.{Counts}
-use Rattle.terms.specs.Choice.{pick}
 use Rattle.fields.specs.Placed.{placed, Wrote}
 use Rattle.fields.specs.Promises as fields
 use Rattle.walkfile.specs.Listing.{listingOf, listingBytes, written, no-room, listed}
@@ -21,7 +20,7 @@ module _ (file buffer : List ℕ) where
   short-kept h = sym (ways.not-listed file buffer h)
 
   module _ (count : ℕ) (after : List ℕ) (e : written count after ≡ listed file buffer) where
-    by-room : (b : Bool) → written count after ≡ pick b (no-room buffer) (written (length (listingOf file)) (placed buffer 0 (listingOf file)))
+    by-room : (b : Bool) → written count after ≡ cond b (no-room buffer) (written (length (listingOf file)) (placed buffer 0 (listingOf file)))
         → Wrote buffer 0 (listingOf file) after count
     by-room true q = let z : _≡_ {A = ℕ} 0 1 = cc in absurd (omega arith)
     by-room false q =

@@ -1,12 +1,12 @@
 -- The listing of a file (document 01, "File and listing"): what stands in the file goes through the engine's own definitions
 -- and comes out as lines.
 -- Assumes nothing.
+use mathlib.Core.Bool.{cond}
 use mathlib.Core.List.{List, [], _∷_, _++_}
 use Prim.Native.Nat.{ℕ, suc}
 use lib.Dec.{ltb}
 use lib.ListN.{length, drop, replicate}
 use Rattle.marks.specs.Marks.{size}
-use Rattle.terms.specs.Choice.{pick}
 use Rattle.exchange.specs.declared.call.Call.{Call}
 use Rattle.records.specs.declared.header.Header.{Header}
 use Rattle.records.specs.declared.header.Header.the-variants as header
@@ -85,4 +85,4 @@ outcome NoRoom buffer = no-room buffer
 -- the listing stands at the start of a buffer that has room, and no other place is changed
 unfoldable pub listed : List ℕ → List ℕ → Outcome
 listed file buffer =
-    pick (ltb (length buffer) listingBytes) (no-room buffer) (written (length (listingOf file)) (placed buffer 0 (listingOf file)))
+    cond (ltb (length buffer) listingBytes) (no-room buffer) (written (length (listingOf file)) (placed buffer 0 (listingOf file)))

@@ -2,7 +2,7 @@
 -- Assumes nothing.
 use mathlib.Core.Path.{_≡_, refl, sym, _∙_}
 use mathlib.Core.Logic.{_⊎_, inr, ⊎-elim}
-use mathlib.Core.Bool.{true, false}
+use mathlib.Core.Bool.{true, false, cond}
 use mathlib.Core.List.{List}
 use Prim.Native.Nat.{ℕ, zero, suc, _+_, _*_, _<_, _≤_}
 use native.Mathlib.Decide.{ℕ-discrete}
@@ -12,7 +12,7 @@ use lib.ListN.{getD, length, set, length-set}
 use lib.Seq.{getD-set-same, getD-set-other}
 use Rattle.marks.specs.Marks.{Words, marked, withMark, size, marked-same, marked-keeps, marked-new, with-words}
 use Rattle.marks.specs.Size.{size-with, size-le}
-use Rattle.terms.specs.Choice.{pick, pick-elim, no-true}
+use Rattle.terms.specs.Choice.{cond-elim, no-true}
 
 -- ---- definitions
 
@@ -26,7 +26,7 @@ asFound known list count = record { known = known; list = list; count = count }
 
 -- term t goes behind the others, if it is new
 unfoldable pub learnOf : Found → ℕ → Found
-learnOf f t = pick (marked (f .known) t) f (asFound (withMark (f .known) t) (set (f .list) (f .count) t) (f .count + 1))
+learnOf f t = cond (marked (f .known) t) f (asFound (withMark (f .known) t) (set (f .list) (f .count) t) (f .count + 1))
 
 -- there is a place for every term that is new
 pub record Room (f : Found) : Type 0 where
@@ -90,18 +90,18 @@ module _ (f : Found) (t : ℕ) (h : t < 512) where
 
   pub learn-room : Room f → Room (learnOf f t)
   unfolding learnOf next
-  learn-room r = pick-elim Room (marked (f .known) t) f next (λ _. r) (room-next r)
+  learn-room r = cond-elim Room (marked (f .known) t) f next (λ _. r) (room-next r)
 
   pub learn-marks : Room f → marked (learnOf f t .known) t ≡ true
   unfolding learnOf next
   learn-marks r =
-      pick-elim (λ (g : Found). marked (g .known) t ≡ true) (marked (f .known) t) f next (λ m. m)
+      cond-elim (λ (g : Found). marked (g .known) t ≡ true) (marked (f .known) t) f next (λ m. m)
       (λ _. marked-same (f .known) t (omega (arith, r .words .len)))
 
   pub learn-more : Room f → More f (learnOf f t)
   unfolding learnOf next
   learn-more r =
-      pick-elim (More f) (marked (f .known) t) f next (λ _. more-refl f)
+      cond-elim (More f) (marked (f .known) t) f next (λ _. more-refl f)
       (λ _.
       record {
         keeps = marked-keeps (f .known) t (omega (arith, r .words .len));
@@ -113,12 +113,12 @@ module _ (f : Found) (t : ℕ) (h : t < 512) where
   pub learn-new : Room f → (i : ℕ) → marked (learnOf f t .known) i ≡ true → (i ≡ t) ⊎ (marked (f .known) i ≡ true)
   unfolding learnOf next
   learn-new r i =
-      pick-elim (λ (g : Found). marked (g .known) i ≡ true → (i ≡ t) ⊎ (marked (f .known) i ≡ true)) (marked (f .known) t) f next (λ _ m. inr m)
+      cond-elim (λ (g : Found). marked (g .known) i ≡ true → (i ≡ t) ⊎ (marked (f .known) i ≡ true)) (marked (f .known) t) f next (λ _ m. inr m)
       (λ _ m. marked-new (f .known) t (omega (arith, r .words .len)) i m)
 
   pub learn-listed : {count : ℕ} → t < count → Listed count f → Listed count (learnOf f t)
   unfolding learnOf next
-  learn-listed {count} lt l = pick-elim (Listed count) (marked (f .known) t) f next (λ _. l) new
+  learn-listed {count} lt l = cond-elim (Listed count) (marked (f .known) t) f next (λ _. l) new
     where
       new : marked (f .known) t ≡ false → Listed count next
       new e =
@@ -159,7 +159,7 @@ listed-none count w none empty places =
 
 -- term i is found, if it is on the wire
 abbrev pub noticeOf : List ℕ → Found → ℕ → Found
-noticeOf ws f i = pick (marked ws i) (learnOf f i) f
+noticeOf ws f i = cond (marked ws i) (learnOf f i) f
 
 -- of the terms below m, the first first
 unfoldable pub startOf : List ℕ → ℕ → Found → Found
@@ -167,7 +167,7 @@ startOf ws zero f = f
 startOf ws (suc m) f = noticeOf ws (startOf ws m f) m
 
 pub notice-room : (ws : List ℕ) (f : Found) (i : ℕ) → i < 512 → Room f → Room (noticeOf ws f i)
-notice-room ws f i h r = pick-elim Room (marked ws i) (learnOf f i) f (λ _. learn-room f i h r) (λ _. r)
+notice-room ws f i h r = cond-elim Room (marked ws i) (learnOf f i) f (λ _. learn-room f i h r) (λ _. r)
 
 pub start-zero : (ws : List ℕ) (f : Found) → f ≡ startOf ws 0 f
 unfolding startOf

@@ -2,7 +2,7 @@
 -- from the state"), beside 4 to 6 of its fields and 20.
 -- Assumes nothing.
 use Prim.Native.Nat.{ℕ, zero, suc, _≤_}
-use mathlib.Core.Bool.{Bool, true, false, not, _&&_}
+use mathlib.Core.Bool.{Bool, true, false, not, _&&_, cond}
 use mathlib.Core.List.{List, [], _∷_}
 use mathlib.Core.Logic.{_⊎_, inl, inr}
 use mathlib.Core.Path.{_≡_, refl}
@@ -11,7 +11,6 @@ use native.Mathlib.Omega.{arith}
 use lib.Dec.{leb, eqb}
 use lib.ListN.{getD}
 use borrow.Author.Tests.{eq-eqb}
-use Rattle.terms.specs.Choice.{pick}
 use Rattle.terms.specs.Meaning.{messageAt}
 use Rattle.sending.specs.Send.{fitsIn}
 use Rattle.exchange.specs.declared.run.Row.{Row}
@@ -122,7 +121,7 @@ unfolding inputRefusal
 fields-number h s = by (leb 1 (s .step) && leb (s .step) 10) (unusedZero (usesOf (s .step)) s) (inRange h (usesOf (s .step)) s)
   where
     number : Bool → Bool → Bool → ℕ
-    number a b c = pick a (pick b (pick c 0 6) 5) 4
+    number a b c = cond a (cond b (cond c 0 6) 5) 4
 
     by : (a b c : Bool) → (number a b c ≡ 0) ⊎ (number a b c ∈ fieldRefusals)
     by true true true = inl refl

@@ -1,7 +1,7 @@
 -- A message is read as a form with these values exactly if it is the exchange's message of that name with these values
 -- (`ticket-form` and so on). Then, by cases, what the code answers (`ticket-read` and so on).
 -- Assumes nothing.
-use mathlib.Core.Bool.{Bool, true, false, _&&_}
+use mathlib.Core.Bool.{Bool, true, false, _&&_, cond}
 use mathlib.Core.Logic.{_↔_}
 use mathlib.Core.Option.{Option, none, some}
 use mathlib.Core.Path.{_≡_, refl, sym, ap, ap₂, _∙_}
@@ -10,7 +10,6 @@ use native.Mathlib.Omega.{arith}
 use borrow.Author.Tests.{eqb-true, eq-eqb, ne-eqb}
 use lib.Dec.{eqb}
 use Rattle.kerberos.specs.Messages.{ticket, authenticator}
-use Rattle.terms.specs.Choice.{pick}
 use Rattle.terms.specs.Message.{Message, pair}
 use Rattle.layers.specs.Layers.{TIME, PAIR, ofKind, operands}
 use Rattle.layers.specs.Laws.Layers.{given-back, of-kind, kind-is, pair-back, reads-atom, reads-▸, principal-first, key-first, under-key, under-session, exactly}
@@ -54,7 +53,7 @@ authenticator-read m e = sym (ap authenticatorOf e)
 
 -- ---- "the pair of {K, a, Ts} under b's key and {a, Ta}K"
 
-both-picked : (c d : Bool) (x y : Delivery) → (deliveries.Other ≡ y → ⊥) → pick (c && d) x deliveries.Other ≡ y → (c ≡ true) × (d ≡ true) × (x ≡ y)
+both-picked : (c d : Bool) (x y : Delivery) → (deliveries.Other ≡ y → ⊥) → cond (c && d) x deliveries.Other ≡ y → (c ≡ true) × (d ≡ true) × (x ≡ y)
 both-picked true true x y h e = (refl, refl, e)
 both-picked true false x y h e = absurd (h e)
 both-picked false d x y h e = absurd (h e)

@@ -1,7 +1,7 @@
 -- Laws of the layers. `Reads` and `Layer` say exactly which messages a form and a layer have; `stops`, `rest-stops` and
 -- `goes` are the ways out of a chain.
 -- Assumes nothing.
-use mathlib.Core.Bool.{Bool, true, false}
+use mathlib.Core.Bool.{Bool, true, false, cond}
 use mathlib.Core.Logic.{_↔_}
 use mathlib.Core.Option.{Option, none, some}
 use mathlib.Core.Path.{_≡_, refl, sym, ap, ap₂, _∙_}
@@ -10,7 +10,6 @@ use native.Mathlib.Omega.{arith}
 use borrow.Author.Tests.{eqb-true, eq-eqb, ne-eqb}
 use lib.Dec.{eqb}
 use Rattle.traces.specs.Terms.{given}
-use Rattle.terms.specs.Choice.{pick}
 use Rattle.terms.specs.Meaning.{keyOf}
 use Rattle.terms.specs.Message.{longTerm, session, Message, principal, time, nonce, key, pair, encrypted}
 use Rattle.layers.specs.Layers.{PRINCIPAL, TIME, LONG_TERM_KEY, SESSION_KEY, PAIR, ENCRYPTED, kind, number, operands, ofKind, atom, layer, first, under, after, _▸_}
@@ -26,7 +25,7 @@ module _ {A : Type 0} (f : Message → A) where
   unfolding ofKind
   of-other k m h = rw (ne-eqb (kind m) k h)
 
-  picked : (b : Bool) (x y : A) → pick b (some x) none ≡ some y → (b ≡ true) × (x ≡ y)
+  picked : (b : Bool) (x y : A) → cond b (some x) none ≡ some y → (b ≡ true) × (x ≡ y)
   picked true x y e = (refl, (cc))
   picked false x y e = ((cc), (cc))
 

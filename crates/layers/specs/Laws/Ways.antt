@@ -1,5 +1,6 @@
 -- The ways out of a layer. Where a term is not of the kind that the layer asks for, its tag is one of the others, so its
 -- message is of another kind. Assumes nothing.
+use mathlib.Core.Bool.{cond}
 use mathlib.Core.List.{List, [], _∷_}
 use mathlib.Core.Option.{none, some}
 use mathlib.Core.Path.{_≡_, refl, sym, ap, _∙_, subst}
@@ -11,7 +12,6 @@ use types.Run.{OneOf, miss}
 use Rattle.words.proofs.Term.{the-type}
 use Rattle.words.specs.declared.Term.{Term}
 use Rattle.words.specs.declared.Term.the-variants.{Principal, Time, Nonce, LongTermKey, SessionKey, Pair, Encrypted, Unknown}
-use Rattle.terms.specs.Choice.{pick}
 use Rattle.terms.specs.Meaning.{messageOf, messageAt}
 use Rattle.terms.specs.Message.{Message}
 use Rattle.terms.specs.Rules.{termAt, Fields}
@@ -34,7 +34,7 @@ kind-tag n ts i sub Unknown f = absurd f
 -- the tags without k
 abbrev without : ℕ → List ℕ → List ℕ
 without k [] = []
-without k (x ∷ xs) = pick (eqb x k) (without k xs) (x ∷ without k xs)
+without k (x ∷ xs) = cond (eqb x k) (without k xs) (x ∷ without k xs)
 
 abbrev pub others : ℕ → List ℕ
 others k = without k (0 ∷ 1 ∷ 2 ∷ 3 ∷ 4 ∷ 5 ∷ 6 ∷ 7 ∷ [])

@@ -5,7 +5,7 @@ use Prim.Native.Nat.{ℕ, zero, suc, _+_, _<_, _≤_}
 use native.Mathlib.Nat.{not-suc-le-zero, le-of-suc-le-suc}
 use native.Mathlib.Numerals.{add-one}
 use native.Mathlib.Omega.{arith}
-use mathlib.Core.Bool.{Bool, true, false, not, _&&_, _||_, and-eq-true-iff}
+use mathlib.Core.Bool.{Bool, true, false, not, _&&_, _||_, and-eq-true-iff, cond}
 use mathlib.Core.List.{List, [], _∷_, _++_, List·Memᴰ, List·Memᴰ·head, List·Memᴰ·tail}
 use lib.Dec.{eqb, ltb, leb}
 use lib.ListN.{length, getD, take}
@@ -13,7 +13,7 @@ use lib.Seq.{take-suc}
 use borrow.Author.Tests.{not-false, eqb-true, leb-true, leb-false, lt-ltb, le-ltb, le-leb, eq-eqb, ne-eqb}
 use Rattle.replay.specs.declared.entry.Entry.{Entry}
 use Rattle.replay.specs.declared.entry.Purge.{Purge}
-use Rattle.replay.specs.Cache.{choose, empty, same, filter, present, stays, entries}
+use Rattle.replay.specs.Cache.{empty, same, filter, present, stays, entries}
 
 -- ---- same
 
@@ -126,7 +126,7 @@ module _ (q : Entry → Bool) where
   filter-append [] ys = refl
   filter-append (x ∷ xs) ys = on (q x) (filter-append xs ys)
     where
-      on : (t : Bool) → filter q (xs ++ ys) ≡ filter q xs ++ filter q ys → choose t (x ∷ filter q (xs ++ ys)) (filter q (xs ++ ys)) ≡ choose t (x ∷ filter q xs) (filter q xs) ++ filter q ys
+      on : (t : Bool) → filter q (xs ++ ys) ≡ filter q xs ++ filter q ys → cond t (x ∷ filter q (xs ++ ys)) (filter q (xs ++ ys)) ≡ cond t (x ∷ filter q xs) (filter q xs) ++ filter q ys
       on true e = ap (λ (l : List Entry). x ∷ l) e
       on false e = e
 
@@ -134,7 +134,7 @@ module _ (q : Entry → Bool) where
   filter-length [] = omega arith
   filter-length (x ∷ xs) = on (q x) (filter-length xs)
     where
-      on : (t : Bool) → length (filter q xs) ≤ length xs → length (choose t (x ∷ filter q xs) (filter q xs)) ≤ suc (length xs)
+      on : (t : Bool) → length (filter q xs) ≤ length xs → length (cond t (x ∷ filter q xs) (filter q xs)) ≤ suc (length xs)
       on true e = omega arith
       on false e = omega arith
 
@@ -143,7 +143,7 @@ module _ (q : Entry → Bool) where
   filter-of (y ∷ ys) {x} (List·Memᴰ·head h) t = rw (← h, t) (List·Memᴰ·head refl)
   filter-of (y ∷ ys) {x} (List·Memᴰ·tail m) t = on (q y) (filter-of ys m t)
     where
-      on : (u : Bool) → List·Memᴰ x (filter q ys) → List·Memᴰ x (choose u (y ∷ filter q ys) (filter q ys))
+      on : (u : Bool) → List·Memᴰ x (filter q ys) → List·Memᴰ x (cond u (y ∷ filter q ys) (filter q ys))
       on true k = List·Memᴰ·tail k
       on false k = k
 
@@ -157,6 +157,6 @@ module _ (q : Entry → Bool) where
       first t k (List·Memᴰ·head h) = (List·Memᴰ·head h, ap q h ∙ t)
       first t k (List·Memᴰ·tail i) = past (k i)
 
-      on : (u : Bool) → q y ≡ u → (List·Memᴰ x (filter q ys) → List·Memᴰ x ys × (q x ≡ true)) → List·Memᴰ x (choose u (y ∷ filter q ys) (filter q ys)) → List·Memᴰ x (y ∷ ys) × (q x ≡ true)
+      on : (u : Bool) → q y ≡ u → (List·Memᴰ x (filter q ys) → List·Memᴰ x ys × (q x ≡ true)) → List·Memᴰ x (cond u (y ∷ filter q ys) (filter q ys)) → List·Memᴰ x (y ∷ ys) × (q x ≡ true)
       on true t k i = first t k i
       on false t k i = past (k i)

@@ -2,7 +2,7 @@
 -- Assumes nothing.
 use Prim.Native.Nat.{ℕ, suc, _<_}
 use mathlib.Core.Path.{_≡_, refl, sym, ap, ap₂, subst, _∙_}
-use mathlib.Core.Bool.{Bool, true, false}
+use mathlib.Core.Bool.{Bool, true, false, cond}
 use mathlib.Core.List.{List, [], _∷_, _++_}
 use native.Mathlib.Nat.{le-refl}
 use native.Mathlib.Omega.{arith}
@@ -13,7 +13,6 @@ use lib.Seq.{take-suc, take-set-le, getD-set-same}
 use Rattle.terms.specs.declared.table.Found.{Found}
 use Rattle.terms.specs.declared.table.Found.the-variants.{At, Nothing}
 use Rattle.terms.specs.Add.{addBy, addOf}
-use Rattle.terms.specs.Choice.{pick}
 use Rattle.terms.specs.Number.{termsOf}
 use Rattle.terms.specs.Outcome as terms
 use Rattle.terms.specs.Rules.{refusalOf, refusal-same}
@@ -37,8 +36,8 @@ module _ {n : ℕ} {ts ts′ : List ℕ} {count : ℕ} (v : Valid n ts count) (v
   kept-same k = record { answer = refl; count = refl; terms = same }
 
   by-room : (full : Bool) → eqb count 512 ≡ full
-      → AddsSame (pick full (terms.refuse 20 count ts) (terms.accept count (suc count) (set ts count word)))
-      (pick full (terms.refuse 20 count ts′) (terms.accept count (suc count) (set ts′ count word)))
+      → AddsSame (cond full (terms.refuse 20 count ts) (terms.accept count (suc count) (set ts count word)))
+      (cond full (terms.refuse 20 count ts′) (terms.accept count (suc count) (set ts′ count word)))
   by-room true e = kept-same 20
   by-room false e =
       let room : count < 512 = omega (arith, v .room, eqb-false count 512 e) in
@@ -55,7 +54,7 @@ module _ {n : ℕ} {ts ts′ : List ℕ} {count : ℕ} (v : Valid n ts count) (v
   by-found (At i) = record { answer = refl; count = refl; terms = same }
   by-found Nothing = by-room (eqb count 512) refl
 
-  by-rule : (fine : Bool) (k : ℕ) (f : Found) → AddsSame (pick fine (addBy ts count word f) (terms.refuse k count ts)) (pick fine (addBy ts′ count word f) (terms.refuse k count ts′))
+  by-rule : (fine : Bool) (k : ℕ) (f : Found) → AddsSame (cond fine (addBy ts count word f) (terms.refuse k count ts)) (cond fine (addBy ts′ count word f) (terms.refuse k count ts′))
   by-rule true k f = by-found f
   by-rule false k f = kept-same k
 
@@ -65,7 +64,7 @@ module _ {n : ℕ} {ts ts′ : List ℕ} {count : ℕ} (v : Valid n ts count) (v
       let k = refusalOf n ts count word in
       let f = findOf ts count word in
       subst (AddsSame (addOf n ts count word))
-      (ap (λ (j : ℕ). pick (eqb j 0) (addBy ts′ count word f) (terms.refuse j count ts′)) (refusal-same n ts ts′ count word (words-same v v′ same))
-      ∙ ap (λ (g : Found). pick (eqb (refusalOf n ts′ count word) 0) (addBy ts′ count word g) (terms.refuse (refusalOf n ts′ count word) count ts′))
+      (ap (λ (j : ℕ). cond (eqb j 0) (addBy ts′ count word f) (terms.refuse j count ts′)) (refusal-same n ts ts′ count word (words-same v v′ same))
+      ∙ ap (λ (g : Found). cond (eqb (refusalOf n ts′ count word) 0) (addBy ts′ count word g) (terms.refuse (refusalOf n ts′ count word) count ts′))
       (find-same ts ts′ count word (words-same v v′ same)))
       (by-rule (eqb k 0) k f)

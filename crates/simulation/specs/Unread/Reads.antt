@@ -3,12 +3,12 @@
 -- Assumes nothing.
 use Prim.Native.Nat.{ℕ, _<_}
 use mathlib.Core.Path.{_≡_, sym, ap, subst, _∙_}
-use mathlib.Core.Bool.{not}
+use mathlib.Core.Bool.{not, cond}
 use mathlib.Core.List.{List}
 use mathlib.Core.Option.{some}
 use lib.Dec.{eqb}
 use lib.ListN.{getElem?, getD}
-use Rattle.terms.specs.Choice.{pick, Decides}
+use Rattle.terms.specs.Choice.{Decides}
 use Rattle.terms.specs.Meaning.{messageAt, messages-same}
 use Rattle.terms.specs.Message.{Message}
 use Rattle.terms.specs.Number.{termsOf, terms-agree}
@@ -63,4 +63,4 @@ run-same rs rs′ count same r h = inside (sym (rows-at rs count r h) ∙ ap (λ
 pub admission-same : (h : Realm) (c c′ : List Entry) → entries c (h .entries) ≡ entries c′ (h .entries) → (ts : ℕ) (e : Entry) → admission h c ts e ≡ admission h c′ ts e
 unfolding admission
 admission-same h c c′ same ts e =
-    ap (λ (l : List Entry). pick (not (ticketLives h ts)) 16 (pick (not (authenticatorLives h (e .ta))) 17 (pick (present l e) 18 (pick (eqb (h .entries) 16) 19 0)))) same
+    ap (λ (l : List Entry). cond (not (ticketLives h ts)) 16 (cond (not (authenticatorLives h (e .ta))) 17 (cond (present l e) 18 (cond (eqb (h .entries) 16) 19 0)))) same

@@ -1,13 +1,12 @@
 -- `terms::rules::refusal` meets its contract, test by test. Assumes nothing.
 use mathlib.Core.Path.{_≡_, refl, ap, _∙_, sym}
-use mathlib.Core.Bool.{Bool}
+use mathlib.Core.Bool.{Bool, cond}
 use mathlib.Core.List.{List}
 use Prim.Native.Nat.{ℕ}
 use borrow.Author.Needs.{needs}
 use borrow.Author.Tests.{lt-ltb, le-ltb, eq-eqb, ne-eqb}
 use lib.Dec.{ltb, eqb}
 use Rattle.words.specs.Word.{kindOf, rightOf, termOf}
-use Rattle.terms.specs.Choice.{pick}
 use Rattle.terms.specs.Rules.{spare, fieldsOk, refusalOf}
 use Rattle.terms.proofs.rules.refusal.Statement.{statement}
 use Rattle.terms.proofs.rules.refusal.Tie as tie
@@ -17,7 +16,7 @@ by-tests : (n : ℕ) (ts : List ℕ) (at w : ℕ) {a b d : Bool}
     → ltb 6 (kindOf w) ≡ a
     → eqb (spare (termOf w) (rightOf w)) 0 ≡ b
     → fieldsOk n ts at (termOf w) ≡ d
-    → pick a 4 (pick b (pick d 0 6) 5) ≡ refusalOf n ts at w
+    → cond a 4 (cond b (cond d 0 6) 5) ≡ refusalOf n ts at w
 unfolding refusalOf
 by-tests n ts at w p q r = simp (p, q, r)
 
@@ -48,7 +47,7 @@ fields-ok-requires : tie.Need-fields-ok-requires
 fields-ok-requires c κs = search needs
 
 tests : (c : tie.After-fields-ok) {d : Bool} → c .fields-ok .result ≡ d
-    → pick d 0 6 ≡ refusalOf (c .before .before .before .before .before .before .args .n) (c .before .before .before .before .before .before .args .terms .now)
+    → cond d 0 6 ≡ refusalOf (c .before .before .before .before .before .before .args .n) (c .before .before .before .before .before .before .args .terms .now)
     (c .before .before .before .before .before .before .args .at) (c .before .before .before .before .before .before .args .word)
 tests c e =
     by-tests _ _ _ _ (le-ltb 6 _ (c .before .before .before .before .if1 .left))
