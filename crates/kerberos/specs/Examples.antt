@@ -1,4 +1,4 @@
 -- Small examples on the definitions: the theorem has something to say, and each of its conditions is needed.
-pub mod CaseF
+pub mod Acceptance
 pub mod Conditions
 pub mod EarlyForget

@@ -4,4 +4,3 @@ pub mod Fields
 pub mod Headers
 pub mod Records
 pub mod Calls
-pub mod Examples

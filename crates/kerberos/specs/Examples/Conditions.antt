@@ -7,15 +7,13 @@ use mathlib.Core.List.{[], _∷_}
 use native.Mathlib.Omega.{arith}
 use native.Mathlib.Decide.{ℕ-discrete}
 use Rattle.marks.specs.Bits.{bit}
-use Rattle.terms.specs.Message.{session, key}
 use Rattle.deduction.specs.Derives.{Own, Bad, on-wire, a-principal, a-time, bad-key, own-nonce, own-key, left, decrypt, join, encrypt}
 use Rattle.exchange.specs.declared.call.Call.the-variants.{Term, Step}
 use Rattle.exchange.specs.declared.call.Answer.the-variants.{Number, OkRun}
 use Rattle.traces.specs.Realm.{Realm}
 use Rattle.traces.specs.Lists.{here, there}
-use Rattle.kerberos.specs.Messages.{parallel, reply, ticket, confirmation}
+use Rattle.kerberos.specs.Messages.{parallel}
 use Rattle.traces.specs.Logs.{did, sent}
-use Rattle.kerberos.specs.Log.{Respond, Issue, Accept, Leak, idle, Log}
 use Rattle.kerberos.specs.Rules.{takes-term, takes2, takes3, takes5, takes9}
 use Rattle.traces.specs.RuleSets.{History, new, call}
 use Rattle.kerberos.specs.Words.{Initiator, Accepts, accepts5}
@@ -43,9 +41,6 @@ asked =
     ∷ (Term 0 1 0, Number 0)
     ∷ []
 
-abbrev asked-log : Log
-asked-log = (Issue 0 1 2 0 64, reply parallel 0 2 0 64 1 ∷ ticket 0 1 0 2 ∷ []) ∷ idle ∷ idle ∷ idle ∷ idle ∷ idle ∷ []
-
 lawful-asked : (flags : ℕ) → flags ≤ 4 → flags % 2 ≡ 0 → Lawful parallel (realmOf flags) asked
 unfolding ℕ-discrete
 lawful-asked flags h e =
@@ -71,16 +66,8 @@ delivered h =
 abbrev pub leaked : History
 leaked = delivered ((Step 9 0 0 0 0 0, OkRun 0) ∷ asked)
 
-abbrev leaked-log : Log
-leaked-log =
-    (Accept 1 1 2 0 0 0, confirmation 0 0 ∷ [])
-    ∷ idle
-    ∷ idle
-    ∷ (Respond 1 1 2, [])
-    ∷ (Leak 0, key (session 0) ∷ [])
-    ∷ asked-log
-
-leaked-none : {i a b : ℕ} → ¬ (Initiator leaked-log i a b)
+leaked-none : {i a b : ℕ} → ¬ (Initiator (log parallel leaked) i a b)
+unfolding ℕ-discrete
 leaked-none (did (there (there (there (there (there (there (there (there (there (there (there i)))))))))))) = nowhere i
 
 pub unleaked-needed : Alone (realmOf 0) leaked 1 0
@@ -105,10 +92,8 @@ unleaked-needed = record {
 abbrev pub badA : History
 badA = delivered asked
 
-abbrev badA-log : Log
-badA-log = (Accept 1 1 2 0 0 0, confirmation 0 0 ∷ []) ∷ idle ∷ idle ∷ (Respond 1 1 2, []) ∷ asked-log
-
-badA-none : {i a b : ℕ} → ¬ (Initiator badA-log i a b)
+badA-none : {i a b : ℕ} → ¬ (Initiator (log parallel badA) i a b)
+unfolding ℕ-discrete
 badA-none (did (there (there (there (there (there (there (there (there (there (there i))))))))))) = nowhere i
 
 bad1 : Bad 3 2 1
@@ -148,10 +133,8 @@ badB =
     ∷ (Term 0 1 0, Number 0)
     ∷ []
 
-abbrev badB-log : Log
-badB-log = (Accept 0 1 2 64 0 0, confirmation 0 64 ∷ []) ∷ (Respond 0 1 2, []) ∷ idle ∷ idle ∷ idle ∷ idle ∷ idle ∷ idle ∷ idle ∷ idle ∷ idle ∷ []
-
-badB-none : {i a b : ℕ} → ¬ (Initiator badB-log i a b)
+badB-none : {i a b : ℕ} → ¬ (Initiator (log parallel badB) i a b)
+unfolding ℕ-discrete
 badB-none (did (there (there (there (there (there (there (there (there (there (there (there i)))))))))))) = nowhere i
 
 bad2 : Bad 3 4 2

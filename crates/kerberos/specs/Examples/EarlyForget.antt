@@ -22,7 +22,7 @@ use Rattle.kerberos.specs.Rules.{TicketLives, AuthenticatorLives, takes2
 use Rattle.traces.specs.RuleSets.{History, Entry, entry, call, reading}
 use Rattle.kerberos.specs.Reading.{log, Lawful, rules}
 use Rattle.traces.specs.Sample.{realm, apart, le, nowhere}
-use Rattle.kerberos.specs.Examples.CaseF.{accepting, lawful-accepting}
+use Rattle.kerberos.specs.Examples.Acceptance.{accepting, lawful-accepting}
 
 -- the replay cache of an engine whose purge is one tick ahead of the clock
 abbrev pub early : Realm → Log → List Entry
