@@ -14,7 +14,7 @@ use Rattle.exchange.specs.declared.call.Call.{Call}
 use Rattle.exchange.specs.declared.call.Call.the-variants.{Term, Step}
 use Rattle.traces.specs.Realm.{Realm}
 use Rattle.traces.specs.Lists.{_∈_}
-use Rattle.traces.specs.Terms.{termOf, FieldsFit, TermsFit}
+use Rattle.traces.specs.Terms.{messageFrom, FieldsFit, TermsFit}
 use Rattle.traces.specs.Conditions.{Delivers, Apart, OwnNonce}
 use Rattle.traces.specs.RuleSets.{entry}
 use Rattle.kerberos.specs.Messages.{Form, request, ticket, authenticator, confirmation, issue, grant, presented}
@@ -41,7 +41,7 @@ pub data Takes (f : Form) (R : Realm) (terms : List Message) (l : Log) : Call �
   -- TM: "adding a term", the one that kind, L and R make in this table
   takes-term : {kind x y : ℕ} {m : Message}
       → FieldsFit (R .n) kind x y
-      → termOf terms kind x y ≡ some m
+      → messageFrom terms kind x y ≡ some m
       → length (insert m terms) ≤ 512
       → Takes f R terms l (Term kind x y) idle
   -- "1 | a, b | opens an initiator run r; sends [a, b, nonce r]"

@@ -27,7 +27,7 @@ use Rattle.exchange.specs.Calls.{accepts, Sized}
 use Rattle.traces.specs.Engines.{Agrees}
 use Rattle.traces.specs.Realm.{Realm}
 use Rattle.traces.specs.RuleSets.{Reading}
-use Rattle.traces.specs.Terms.{TermsFit, termOf}
+use Rattle.traces.specs.Terms.{TermsFit, messageFrom}
 use Rattle.kerberos.specs.Log.{Event, Initiate, Respond, Issue, Authenticate, Accept, Finish, Tick, Purge, Leak, Nothing, Act}
 use Rattle.kerberos.specs.Messages.{parallel}
 use Rattle.kerberos.specs.Reading.{HD, actOf}
@@ -111,7 +111,7 @@ module _ {t : Tables} (w : Together t) where
     term-taken : (kind x y : ℕ) → Sized (calls.Term kind x y) → {act : Act} → Takes parallel (header (t .realm)) (ρ .terms) (ρ .log) (calls.Term kind x y) act
         → accepts (numbered (addOf (t .realm .n) (t .terms) (t .realm .terms) (packed kind x y) .answer)) ≡ true
     term-taken kind x y size (takes-term {m = m} fields made fit) =
-        term-accepted (w .terms-hold) kind x y size fields (subst (λ (l : List Message). termOf l kind x y ≡ some m) (sym (a .terms-are)) made)
+        term-accepted (w .terms-hold) kind x y size fields (subst (λ (l : List Message). messageFrom l kind x y ≡ some m) (sym (a .terms-are)) made)
         (subst (λ (l : List Message). length (insert m l) ≤ 512) (sym (a .terms-are)) fit)
 
 told-accepts : (e : Event) → accepts (toldOf e) ≡ true

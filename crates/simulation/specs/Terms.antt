@@ -37,7 +37,7 @@ use Rattle.exchange.specs.Calls.{Sized}
 use Rattle.traces.specs.RuleSets.{Reading, read}
 use Rattle.traces.specs.Realm.{Realm}
 use Rattle.kerberos.specs.Rules.{Takes, takes-term}
-use Rattle.traces.specs.Terms.{termOf, under, given, FieldsFit}
+use Rattle.traces.specs.Terms.{messageFrom, under, given, FieldsFit}
 use Rattle.realm.specs.Opening.{header}
 use Rattle.realm.specs.Tables.{Tables, Together}
 use Rattle.simulation.specs.Values.{valuesOf}
@@ -86,7 +86,7 @@ module _ (n : ℕ) (ts : List ℕ) (count w : ℕ) where
 -- where the terms before `at` have the messages of sub
 pub by-kind : (n : ℕ) (ts : List ℕ) (at : ℕ) (terms : List Message) (sub : ℕ → Message) → ((k : ℕ) → k < at → termAt terms k ≡ some (sub k))
     → ((k : ℕ) → k < at → isKey (rules.termAt ts k) ≡ true → sub k ≡ key (keyOf (sub k)))
-    → (kind x y : ℕ) → Fields n ts at (termBy kind x y) → termOf terms kind x y ≡ some (messageOf sub (termBy kind x y))
+    → (kind x y : ℕ) → Fields n ts at (termBy kind x y) → messageFrom terms kind x y ≡ some (messageOf sub (termBy kind x y))
 by-kind n ts at terms sub s g zero x y f = refl
 by-kind n ts at terms sub s g (suc zero) x y f = refl
 by-kind n ts at terms sub s g (suc (suc zero)) x y f = refl
@@ -134,7 +134,7 @@ module _ {n : ℕ} {ts : List ℕ} {count : ℕ} (v : Valid n ts count) (kind x 
       by-fields n ts count kind x y (ap₂ spare (sym by-term) (sym right) ∙ passed n ts count (packed kind x y) (way .0) .unused) fine
 
   -- the message that the term stands for is that of its kind and operands
-  pub term-made : termOf (meanings ts count) kind x y ≡ some (messageAt ts′ i)
+  pub term-made : messageFrom (meanings ts count) kind x y ≡ some (messageAt ts′ i)
   term-made =
       by-kind n ts count (meanings ts count) (messageAt ts′) (λ k h. meanings-at ts count k h ∙ ap some (older k h))
       (λ k h q. sym (older k h) ∙ key-at (v .terms) k h q ∙ ap (λ (m : Message). key (keyOf m)) (older k h)) kind x y fine
@@ -205,8 +205,8 @@ module _ {t : Tables} (w : Together t) (kind x y : ℕ) (size : Sized (Term kind
   term-together = next-together w grows (nothing (t .realm .clock)) tt tt (w .clock-fits)
 
   module _ {R : Realm} (ρ : Reading Event) (a : Agrees HD R (valuesOf t) ρ) where
-    made : termOf (ρ .terms) kind x y ≡ some (messageAt ts i)
-    made = subst (λ (l : List Message). termOf l kind x y ≡ some (messageAt ts i)) (a .terms-are) (term-made (w .terms-hold) kind x y size e)
+    made : messageFrom (ρ .terms) kind x y ≡ some (messageAt ts i)
+    made = subst (λ (l : List Message). messageFrom l kind x y ≡ some (messageAt ts i)) (a .terms-are) (term-made (w .terms-hold) kind x y size e)
 
     pub term-takes : header (t .realm) ≡ R → Takes parallel R (ρ .terms) (ρ .log) (Term kind x y) idle
     term-takes same =

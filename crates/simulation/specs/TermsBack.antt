@@ -27,7 +27,7 @@ use Rattle.messages.specs.Listed.{termAt, insert, insert-new}
 use Rattle.messages.specs.Meanings.{meanings, meanings-length, meanings-at, at-meanings}
 use Rattle.exchange.specs.declared.call.Call.the-variants.{Term}
 use Rattle.exchange.specs.Calls.{accepts, Sized}
-use Rattle.traces.specs.Terms.{termOf, under, given, FieldsFit}
+use Rattle.traces.specs.Terms.{messageFrom, under, given, FieldsFit}
 use Rattle.effects.specs.Call.{numbered}
 use Rattle.simulation.specs.Terms.{word-term, by-kind}
 
@@ -68,7 +68,7 @@ module _ {n : ℕ} {ts : List ℕ} {count : ℕ} (v : Valid n ts count) where
   is-key : (k : ℕ) → k < count → {κ : Key} → messageAt ts k ≡ key κ → isKey (rules.termAt ts k) ≡ true
   is-key k h e = key-inv (messageAt ts) (rules.termAt ts k) (sym (message-at (v .terms) k h) ∙ e)
 
-  passing : (kind x y : ℕ) {m : Message} → FieldsFit n kind x y → termOf (meanings ts count) kind x y ≡ some m → Passing kind x y
+  passing : (kind x y : ℕ) {m : Message} → FieldsFit n kind x y → messageFrom (meanings ts count) kind x y ≡ some m → Passing kind x y
   passing zero x y f e = record { low = omega arith; unused = f .1; fine = f .0 }
   passing (suc zero) x y f e = record { low = omega arith; unused = refl; fine = tt }
   passing (suc (suc zero)) x y f e = record { low = omega arith; unused = f .1; fine = f .0 }
@@ -86,7 +86,7 @@ module _ {n : ℕ} {ts : List ℕ} {count : ℕ} (v : Valid n ts count) where
       record { low = omega arith; unused = refl; fine = (at-meanings ts count x (p .value) (p .is) .0, a .0, is-key y (a .0) (a .1 ∙ k .1)) }
   passing (suc (suc (suc (suc (suc (suc (suc kind))))))) x y f e = no-message e
 
-  module _ (kind x y : ℕ) (size : Sized (Term kind x y)) {m : Message} (fit : FieldsFit n kind x y) (made : termOf (meanings ts count) kind x y ≡ some m) where
+  module _ (kind x y : ℕ) (size : Sized (Term kind x y)) {m : Message} (fit : FieldsFit n kind x y) (made : messageFrom (meanings ts count) kind x y ≡ some m) where
     abbrev w : ℕ
     w = packed kind x y
 
