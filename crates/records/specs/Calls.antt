@@ -12,7 +12,7 @@ use Rattle.exchange.specs.declared.call.Call.{Call}
 use Rattle.exchange.specs.Calls.{Sized, AllSized}
 use Rattle.records.specs.declared.record.Record.the-variants as answer
 use Rattle.records.specs.Fields.{Bytes, begins-whole, small16, small32, drop-bytes}
-use Rattle.records.specs.Records.{termMark, stepMark, termBytes, stepBytes, termOf, stepOf, Front, whole, none, unreadable, frontOf, told, recordAt, front-none, record-end, Finds, at-end, at-term, at-step, at-fault, front-finds}
+use Rattle.records.specs.Records.{termMark, stepMark, termBytes, stepBytes, termCall, stepCall, Front, whole, none, unreadable, frontOf, told, recordAt, front-none, record-end, Finds, at-end, at-term, at-step, at-fault, front-finds}
 
 -- ---- definitions
 
@@ -54,10 +54,10 @@ pub record Whole (bytes : List ℕ) (c : Call) (width : ℕ) : Type 0 where
   pub sized : Bytes bytes → Sized c
 
 module _ (bytes : List ℕ) where
-  term-sized : Bytes bytes → Sized (termOf bytes)
+  term-sized : Bytes bytes → Sized (termCall bytes)
   term-sized b = (b .small 2, small16 b 3, small16 b 5)
 
-  step-sized : Bytes bytes → Sized (stepOf bytes)
+  step-sized : Bytes bytes → Sized (stepCall bytes)
   step-sized b = (b .small 2, b .small 3, b .small 4, b .small 5, small16 b 6, small32 b 8)
 
   is-whole : (d : Call) (w : ℕ) (c : Call) (width : ℕ) → whole d w ≡ whole c width → termBytes ≤ w → w ≤ length bytes → (Bytes bytes → Sized d) → Whole bytes c width
@@ -69,8 +69,8 @@ module _ (bytes : List ℕ) where
   found-whole : (f : Front) → Finds bytes f → (c : Call) (width : ℕ) → f ≡ whole c width → Whole bytes c width
   found-whole f (at-end z) c width e = let z : _≡_ {A = ℕ} 0 1 = cc in absurd (omega arith)
   found-whole f (at-fault l m n) c width e = let z : _≡_ {A = ℕ} 0 1 = cc in absurd (omega arith)
-  found-whole f (at-term h) c width e = is-whole (termOf bytes) termBytes c width e (omega arith) (begins-whole termMark termBytes bytes h) term-sized
-  found-whole f (at-step h) c width e = is-whole (stepOf bytes) stepBytes c width e (omega arith) (begins-whole stepMark stepBytes bytes h) step-sized
+  found-whole f (at-term h) c width e = is-whole (termCall bytes) termBytes c width e (omega arith) (begins-whole termMark termBytes bytes h) term-sized
+  found-whole f (at-step h) c width e = is-whole (stepCall bytes) stepBytes c width e (omega arith) (begins-whole stepMark stepBytes bytes h) step-sized
 
   pub front-whole : (c : Call) (width : ℕ) → frontOf bytes ≡ whole c width → Whole bytes c width
   front-whole c width e = found-whole (frontOf bytes) (front-finds bytes) c width e

@@ -31,12 +31,12 @@ abbrev pub stepBytes : ℕ
 stepBytes = 12
 
 -- kind, L, R
-abbrev pub termOf : List ℕ → Call
-termOf bytes = Term (byte bytes 2) (number16 bytes 3) (number16 bytes 5)
+abbrev pub termCall : List ℕ → Call
+termCall bytes = Term (byte bytes 2) (number16 bytes 3) (number16 bytes 5)
 
 -- step, run, a, b, m, t
-abbrev pub stepOf : List ℕ → Call
-stepOf bytes = Step (byte bytes 2) (byte bytes 3) (byte bytes 4) (byte bytes 5) (number16 bytes 6) (number32 bytes 8)
+abbrev pub stepCall : List ℕ → Call
+stepCall bytes = Step (byte bytes 2) (byte bytes 3) (byte bytes 4) (byte bytes 5) (number16 bytes 6) (number32 bytes 8)
 
 -- what stands at the front of the rest of a file: a whole record, its call and how many bytes it takes; no record, at the end;
 -- or one that is refused
@@ -48,8 +48,8 @@ pub data Front : Type 0 where
 unfoldable pub frontOf : List ℕ → Front
 frontOf bytes =
     cond (eqb (length bytes) 0) none
-    (cond (begins termMark termBytes bytes) (whole (termOf bytes) termBytes)
-    (cond (begins stepMark stepBytes bytes) (whole (stepOf bytes) stepBytes)
+    (cond (begins termMark termBytes bytes) (whole (termCall bytes) termBytes)
+    (cond (begins stepMark stepBytes bytes) (whole (stepCall bytes) stepBytes)
     unreadable))
 
 -- the same, where the rest begins at a place of the file
@@ -69,11 +69,11 @@ unfolding frontOf
 front-none rest e = rw (eq-eqb (length rest) 0 e)
 
 module _ (rest : List ℕ) (some : 0 < length rest) where
-  pub front-term : begins termMark termBytes rest ≡ true → {c : Call} → c ≡ termOf rest → whole c termBytes ≡ frontOf rest
+  pub front-term : begins termMark termBytes rest ≡ true → {c : Call} → c ≡ termCall rest → whole c termBytes ≡ frontOf rest
   unfolding frontOf
   front-term e is = rw (is, ne-eqb (length rest) 0 (λ z. omega arith), e)
 
-  pub front-step : begins termMark termBytes rest ≡ false → begins stepMark stepBytes rest ≡ true → {c : Call} → c ≡ stepOf rest
+  pub front-step : begins termMark termBytes rest ≡ false → begins stepMark stepBytes rest ≡ true → {c : Call} → c ≡ stepCall rest
       → whole c stepBytes ≡ frontOf rest
   unfolding frontOf
   front-step n e is = rw (is, ne-eqb (length rest) 0 (λ z. omega arith), n, e)
@@ -87,17 +87,17 @@ module _ (rest : List ℕ) (some : 0 < length rest) where
 -- what reading at the front found, and what it says of the bytes
 pub data Finds (bytes : List ℕ) : Front → Type 0 where
   at-end : length bytes ≡ 0 → Finds bytes none
-  at-term : begins termMark termBytes bytes ≡ true → Finds bytes (whole (termOf bytes) termBytes)
-  at-step : begins stepMark stepBytes bytes ≡ true → Finds bytes (whole (stepOf bytes) stepBytes)
+  at-term : begins termMark termBytes bytes ≡ true → Finds bytes (whole (termCall bytes) termBytes)
+  at-step : begins stepMark stepBytes bytes ≡ true → Finds bytes (whole (stepCall bytes) stepBytes)
   at-fault : 0 < length bytes → begins termMark termBytes bytes ≡ false → begins stepMark stepBytes bytes ≡ false → Finds bytes unreadable
 
 pub front-finds : (bytes : List ℕ) → Finds bytes (frontOf bytes)
 unfolding frontOf
 front-finds bytes =
     let is-step = begins stepMark stepBytes bytes in
-    let step = whole (stepOf bytes) stepBytes in
+    let step = whole (stepCall bytes) stepBytes in
     let is-term = begins termMark termBytes bytes in
-    let term = whole (termOf bytes) termBytes in
+    let term = whole (termCall bytes) termBytes in
     cond-elim (Finds bytes) (eqb (length bytes) 0) none (cond is-term term (cond is-step step unreadable)) (λ e. at-end (eqb-true (length bytes) 0 e))
     (λ some. cond-elim (Finds bytes) is-term term (cond is-step step unreadable) at-term
     (λ n. cond-elim (Finds bytes) is-step step unreadable at-step

@@ -6,7 +6,7 @@ use exchange::call::Call;
 ghost use mathlib.Core.Path.{_≡_};
 ghost use Prim.Native.Nat.{_≤_};
 ghost use lib.ListN.{length};
-ghost use Rattle.records.specs.Records.{termOf, stepOf, recordAt};
+ghost use Rattle.records.specs.Records.{termCall, stepCall, recordAt};
 
 // The letters TM and ST.
 const TERM_MARK: u16 = 0x544D;
@@ -30,7 +30,7 @@ pub enum Record {
 // The call of a TM record.
 fn term_of(bytes: &[u8]) -> Call
     requires { ⌜ 7 ≤ length (now bytes) ⌝ }
-    ensures { λ r. ⌜ r ≡ termOf (now (bytes .entry)) ⌝ }
+    ensures { λ r. ⌜ r ≡ termCall (now (bytes .entry)) ⌝ }
 {
     let l = u16_at(bytes, 3);
     let r = u16_at(bytes, 5);
@@ -44,7 +44,7 @@ fn term_of(bytes: &[u8]) -> Call
 // The call of an ST record.
 fn step_of(bytes: &[u8]) -> Call
     requires { ⌜ 12 ≤ length (now bytes) ⌝ }
-    ensures { λ r. ⌜ r ≡ stepOf (now (bytes .entry)) ⌝ }
+    ensures { λ r. ⌜ r ≡ stepCall (now (bytes .entry)) ⌝ }
 {
     let m = u16_at(bytes, 6);
     let t = u32_at(bytes, 8);
