@@ -12,7 +12,7 @@ use Rattle.replay.specs.declared.entry.Entry.{Entry}
 use Rattle.realm.specs.declared.header.Realm.{Realm}
 
 -- term m of these tables can be asked for
-pub record Delivers (h : Realm) (ts ws : List ℕ) (m : ℕ) : Type 0 where
+pub record Askable (h : Realm) (ts ws : List ℕ) (m : ℕ) : Type 0 where
   pub terms : Valid (h .n) ts (h .terms)
   pub wire : Words 8 ws
   pub below : m < h .terms

@@ -9,7 +9,7 @@ use replay::entry::REFUSE_REPLAY;
 use synthesis::compose::derivable;
 ghost use mathlib.Core.Path.{_≡_};
 ghost use Prim.Native.Nat.{_≤_};
-ghost use Rattle.conditions.specs.Conditions.{Delivers, derivableAt, ticketLives, authenticatorLives, admission};
+ghost use Rattle.conditions.specs.Conditions.{Askable, derivableAt, ticketLives, authenticatorLives, admission};
 
 pub const REFUSE_TICKET: u8 = 16;
 
@@ -17,7 +17,7 @@ pub const REFUSE_AUTHENTICATOR: u8 = 17;
 
 // Whether the intruder can derive term m.
 pub fn can_deliver(h: Realm, terms: &[u64], wire: &[u64], m: u16) -> bool
-    requires { ⌜ Delivers h (now terms) (now wire) m ⌝ }
+    requires { ⌜ Askable h (now terms) (now wire) m ⌝ }
     ensures { λ r. ⌜ r ≡ derivableAt h (now (terms .entry)) (now (wire .entry)) m ⌝ }
 {
     let who = Principals {

@@ -21,7 +21,7 @@ use Rattle.forms.specs.declared.Delivery.the-variants as deliveries
 use Rattle.replay.specs.declared.entry.Entry.{Entry}
 use Rattle.realm.specs.declared.header.Realm.{Realm}
 use Rattle.decisions.specs.declared.Verdict.the-variants.{Takes, Refused}
-use Rattle.conditions.specs.Conditions.{Delivers, derivableAt, ticketLives, admission}
+use Rattle.conditions.specs.Conditions.{Askable, derivableAt, ticketLives, admission}
 use Rattle.decisions.specs.Decision.{issues, authenticates, takes, finishes}
 
 -- ---- step 3
@@ -131,7 +131,7 @@ module _ (h : Realm) (ts ws : List ℕ) (r : ℕ) (own : Row) (m : ℕ) where
 
 -- ---- what is read fits
 
-module _ {h : Realm} {ts ws : List ℕ} {m : ℕ} (d : Delivers h ts ws m) where
+module _ {h : Realm} {ts ws : List ℕ} {m : ℕ} (d : Askable h ts ws m) where
   pub request-in-range : (a b n : ℕ) → requestIn (messageAt ts m) ≡ requests.Is a b n → (a < h .n) × (b < h .n)
   request-in-range a b n e = let w = in-range (d .terms) (d .below) (is-request (messageAt ts m) a b n .0 e) in (w .0, w .1 .0)
 

@@ -25,7 +25,7 @@ use replay::entry::Entry;
 use rows::MAX_RUNS;
 ghost use mathlib.Core.Path.{_≡_};
 ghost use Prim.Native.Nat.{_≤_};
-ghost use Rattle.conditions.specs.Conditions.{Delivers};
+ghost use Rattle.conditions.specs.Conditions.{Askable};
 ghost use Rattle.decisions.specs.Decision.{issues, authenticates, takes, finishes};
 
 pub const REFUSE_RUNS_FULL: u8 = 13;
@@ -36,7 +36,7 @@ pub const REFUSE_UNDERIVABLE: u8 = 15;
 
 // Step 3: the server answers a request.
 pub fn issue(h: Realm, terms: &[u64], wire: &[u64], m: u16) -> Verdict
-    requires { ⌜ Delivers h (now terms) (now wire) m ⌝ }
+    requires { ⌜ Askable h (now terms) (now wire) m ⌝ }
     ensures { λ r. ⌜ r ≡ issues h (now (terms .entry)) (now (wire .entry)) m ⌝ }
 {
     if MAX_RUNS <= h.runs {
@@ -77,7 +77,7 @@ pub fn issue(h: Realm, terms: &[u64], wire: &[u64], m: u16) -> Verdict
 
 // Step 4: the initiator takes the server's reply to its own request.
 pub fn authenticate(h: Realm, terms: &[u64], wire: &[u64], run: u8, own: Row, m: u16) -> Verdict
-    requires { ⌜ Delivers h (now terms) (now wire) m ⌝ }
+    requires { ⌜ Askable h (now terms) (now wire) m ⌝ }
     ensures { λ r. ⌜ r ≡ authenticates h (now (terms .entry)) (now (wire .entry)) run own m ⌝ }
 {
     let Reply::Is { k, b, ts, n, a } = open_reply(terms, m) else {
@@ -124,7 +124,7 @@ pub fn accept(
     own: Row,
     m: u16,
 ) -> Verdict
-    requires { ⌜ Delivers h (now terms) (now wire) m × (h .entries ≤ 16) ⌝ }
+    requires { ⌜ Askable h (now terms) (now wire) m × (h .entries ≤ 16) ⌝ }
     ensures { λ r. ⌜ r ≡ takes h (now (terms .entry)) (now (wire .entry)) cache run own m ⌝ }
 {
     let Delivery::Is { k, a, ts, b, ta } = open_delivery(terms, m) else {
@@ -165,7 +165,7 @@ pub fn accept(
 
 // Step 6: the initiator takes the responder's confirmation of its own values.
 pub fn finish(h: Realm, terms: &[u64], wire: &[u64], run: u8, own: Row, m: u16) -> Verdict
-    requires { ⌜ Delivers h (now terms) (now wire) m ⌝ }
+    requires { ⌜ Askable h (now terms) (now wire) m ⌝ }
     ensures { λ r. ⌜ r ≡ finishes h (now (terms .entry)) (now (wire .entry)) run own m ⌝ }
 {
     let Confirmation::Is { ta, k } = open_confirmation(terms, m) else {

@@ -19,7 +19,7 @@ use Rattle.realm.specs.declared.input.Step.{Step}
 use Rattle.realm.specs.Fields.{Range, in-range}
 use Rattle.realm.specs.Input.{usesTable, usesOf, inRange, inputRefusal, passed}
 use Rattle.realm.specs.Tables.{Tables, Together}
-use Rattle.conditions.specs.Conditions.{Delivers, derivableAt}
+use Rattle.conditions.specs.Conditions.{Askable, derivableAt}
 use Rattle.decisions.specs.declared.Sends.{Sends}
 use Rattle.decisions.specs.declared.Sends.the-variants.{Request, Nothing}
 use Rattle.decisions.specs.declared.Verdict.the-variants.{Takes, Refused}
@@ -79,7 +79,7 @@ named-run-below {h} {s} n = by (n .names)
 
 -- its message can be asked for
 pub delivers : {t : Tables} → Together t → (s : Step) → inputRefusal (t .realm) s ≡ 0 → (k : ℕ) → s .step ≡ k → usesOf k .m ≡ true
-    → Delivers (t .realm) (t .terms) (t .wire) (s .m)
+    → Askable (t .realm) (t .terms) (t .wire) (s .m)
 delivers {t} w s passes k e p = record { terms = w .terms-hold; wire = w .wire-words; below = range (t .realm) s passes k e .m p }
 
 -- ---- the steps that name a run

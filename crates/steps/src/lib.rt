@@ -23,7 +23,7 @@ use replay::entry::Entry;
 use rows::MAX_RUNS;
 use rows::run_at;
 ghost use mathlib.Core.Path.{_≡_};
-ghost use Rattle.conditions.specs.Conditions.{Delivers};
+ghost use Rattle.conditions.specs.Conditions.{Askable};
 ghost use Rattle.decisions.specs.Decision.{opensRun, ticks, queries, stepOf, decided};
 ghost use Rattle.steps.specs.Named.{Named};
 ghost use Rattle.realm.specs.Tables.{tables, Together};
@@ -55,7 +55,7 @@ fn tick(h: Realm, t: u32) -> Verdict
 
 // Step 10.
 fn query(h: Realm, terms: &[u64], wire: &[u64], m: u16) -> Verdict
-    requires { ⌜ Delivers h (now terms) (now wire) m ⌝ }
+    requires { ⌜ Askable h (now terms) (now wire) m ⌝ }
     ensures { λ r. ⌜ r ≡ queries h (now (terms .entry)) (now (wire .entry)) m ⌝ }
 {
     if !can_deliver(h, terms, wire, m) {
