@@ -42,7 +42,7 @@ pub use Rattle.walkfile.specs.CaseF.{printed}
 -- ---- the list of calls
 
 -- the file's header opened this realm
-pub record Opens (bytes : List ℕ) (h : Realm) : Type 0 where
+pub record HeaderOpens (bytes : List ℕ) (h : Realm) : Type 0 where
   pub small : Bytes bytes
   pub n : ℕ
   pub flags : ℕ
@@ -55,7 +55,7 @@ pub record Opens (bytes : List ℕ) (h : Realm) : Type 0 where
 abbrev pub callsIn : List ℕ → List Call
 callsIn bytes = newestFirst (callsOf (drop headerBytes bytes) .calls)
 
-module _ (bytes : List ℕ) (h : Realm) (o : Opens bytes h) where
+module _ (bytes : List ℕ) (h : Realm) (o : HeaderOpens bytes h) where
   -- its tables are those of a new realm
   pub new : New (header h) (newTables h)
   new = opened-new bytes (o .n) (o .flags) (o .ls) (o .la) h (o .small) (o .read) (o .opened)
