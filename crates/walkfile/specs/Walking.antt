@@ -33,7 +33,7 @@ pub record Walkable (h : Realm) (bytes : List ℕ) : Type 0 where
 
 -- Before the record at a place, which would be record `number`; the lines after the header's are written from `first` on.
 -- A record takes at least 7 bytes and a line at most 24.
-pub record Standing (bytes before : List ℕ) (first : ℕ) (all after : List ℕ) (t : Tables) (at number end : ℕ) : Type 0 where
+pub record BeforeRecord (bytes before : List ℕ) (first : ℕ) (all after : List ℕ) (t : Tables) (at number end : ℕ) : Type 0 where
   pub together : Together t
   pub inside : at ≤ length bytes
   pub count : 7 * number + 6 ≤ at
@@ -44,7 +44,7 @@ pub record Standing (bytes before : List ℕ) (first : ℕ) (all after : List �
   pub rest : lines ++ linesOf number t (callsOf (drop at bytes)) ≡ all
 
 -- Before the last line.
-pub record Ready (before : List ℕ) (first : ℕ) (all after : List ℕ) (t : Tables) (end : ℕ) : Type 0 where
+pub record BeforeLast (before : List ℕ) (first : ℕ) (all after : List ℕ) (t : Tables) (end : ℕ) : Type 0 where
   pub short : end ≤ 24 * 9362
   pub room : first ≤ length before
   pub lines : List ℕ
@@ -62,7 +62,7 @@ unfolding placed
 nothing-written xs at = record { contents = rw (append-nil (take at xs), add-zero at) (sym (take-append-drop at xs)); offset = omega arith }
 
 pub starts : (bytes before : List ℕ) (h : Realm) (first : ℕ) → Walkable h bytes → first ≤ 24 → 24 ≤ length before
-    → Standing bytes before first (recordLines h bytes) before (newTables h) 13 1 first
+    → BeforeRecord bytes before first (recordLines h bytes) before (newTables h) 13 1 first
 starts bytes before h first w few room =
     record {
       together = w .together;
@@ -75,12 +75,12 @@ starts bytes before h first w few room =
       rest = refl;
     }
 
-module _ (bytes before : List ℕ) (first : ℕ) (all after : List ℕ) (t : Tables) (at number end : ℕ) (s : Standing bytes before first all after t at number end) where
+module _ (bytes before : List ℕ) (first : ℕ) (all after : List ℕ) (t : Tables) (at number end : ℕ) (s : BeforeRecord bytes before first all after t at number end) where
   -- ---- a call
 
   pub goes-on : (c : Call) (next : ℕ) (o : Outcome) (after′ : List ℕ) (end′ : ℕ) → recordAt bytes at ≡ answer.Call c next → Sized c
       → o ≡ called t c → Wrote after end (callLine number c (o .answer)) after′ end′ → end′ ≤ end + 24
-      → Standing bytes before first all after′ (o .tables) next (number + 1) end′
+      → BeforeRecord bytes before first all after′ (o .tables) next (number + 1) end′
   unfolding callLines
   goes-on c next o after′ end′ e sized is w short =
       let taken = step-on bytes at c next e in
@@ -109,7 +109,7 @@ module _ (bytes before : List ℕ) (first : ℕ) (all after : List ℕ) (t : Tab
   pub few : length bytes ≤ maxFile → number ≤ 9361
   few most = omega (arith, s .count, s .inside, most)
 
-  pub ends-whole : length bytes ≤ maxFile → length bytes ≤ at → Ready before first all after t end
+  pub ends-whole : length bytes ≤ maxFile → length bytes ≤ at → BeforeLast before first all after t end
   unfolding lastLines callLines
   ends-whole most h =
       record {
@@ -128,7 +128,7 @@ module _ (bytes before : List ℕ) (first : ℕ) (all after : List ℕ) (t : Tab
 
   pub ends-broken : length bytes ≤ maxFile → at < length bytes → (r : Record) → r ≡ recordAt bytes at
       → ((c : Call) (next : ℕ) → r ≡ answer.Call c next → ⊥)
-      → (mid : List ℕ) (next : ℕ) → Wrote after end (fileLine number 3) mid next → next ≤ end + 24 → Ready before first all mid t next
+      → (mid : List ℕ) (next : ℕ) → Wrote after end (fileLine number 3) mid next → next ≤ end + 24 → BeforeLast before first all mid t next
   unfolding lastLines callLines
   ends-broken most h r is none mid next w short =
       record {
@@ -143,11 +143,11 @@ module _ (bytes before : List ℕ) (first : ℕ) (all after : List ℕ) (t : Tab
       }
 
 pub ready-as : {before : List ℕ} {first : ℕ} {all after after′ : List ℕ} {t : Tables} {end end′ : ℕ} → after′ ≡ after → end′ ≡ end
-    → Ready before first all after t end → Ready before first all after′ t end′
+    → BeforeLast before first all after t end → BeforeLast before first all after′ t end′
 ready-as p q s = rw (p, q) s
 
 pub finishes : (before after₀ after last bytes : List ℕ) (h : Realm) (first : ℕ) (t : Tables) (end r : ℕ) → Wrote before 0 headerLine after₀ first
-    → Ready after₀ first (recordLines h bytes) after t end → Wrote after end (tablesLine t) last r → Wrote before 0 (walkLines h bytes) last r
+    → BeforeLast after₀ first (recordLines h bytes) after t end → Wrote after end (tablesLine t) last r → Wrote before 0 (walkLines h bytes) last r
 unfolding walkLines
 finishes before after₀ after last bytes h first t end r w₀ s w =
     joined (omega arith) w₀ (wrote-as (s .rest) (joined (s .room) (s .wrote) w))

@@ -16,13 +16,13 @@ use Rattle.lines.specs.Lines.{endLine}
 use Rattle.fields.specs.Placed.{wrote-as}
 use Rattle.lines.specs.Promises.{header-short}
 use Rattle.walkfile.specs.Listing.{newTables, tablesLine}
-use Rattle.walkfile.specs.Walking.{Standing, Ready, recordLines, starts, goes-on, advances, few, ends-whole, ends-broken, ready-as, finishes}
+use Rattle.walkfile.specs.Walking.{BeforeRecord, BeforeLast, recordLines, starts, goes-on, advances, few, ends-whole, ends-broken, ready-as, finishes}
 use Rattle.walkfile.proofs.walk_records.Statement.{statement}
 use Rattle.walkfile.proofs.walk_records.Tie as tie
 
 abbrev Inv-loop : tie.InvT-loop
 Inv-loop file out₀ terms₀ runs₀ wire₀ cache₀ realm₀ at₀ number₀ end₀ out terms runs wire cache realm at number end =
-    (length out ≡ length out₀) × (length terms ≡ 512) × (length runs ≡ 448) × (length wire ≡ 8) × Standing file out₀ end₀ (recordLines realm₀ file) out (tables realm terms runs wire cache) at number end
+    (length out ≡ length out₀) × (length terms ≡ 512) × (length runs ≡ 448) × (length wire ≡ 8) × BeforeRecord file out₀ end₀ (recordLines realm₀ file) out (tables realm terms runs wire cache) at number end
 
 abbrev μ-loop : tie.MeasureT-loop
 μ-loop file out₀ terms₀ runs₀ wire₀ cache₀ realm₀ at₀ number₀ end₀ out terms runs wire cache realm at number end = length file - at
@@ -121,7 +121,7 @@ cast-write-end-line-2 c = omega (arith, c .before .before .before .before .befor
 
 -- before the last line, whichever way the reading ended
 ready : (c : tie.Joined1 Inv-loop μ-loop) → let l = c .before .before .before .loop in let w = c .before .before .before .before .before .before .write-header-line in let a = c .before .before .before .before .before .before .before .before .before .before .args in
-    Ready (w .last .0) (w .result) (recordLines (a .h) (a .file .now)) (c .if1 .out) (tables (l .realm) (l .terms) (l .runs) (l .wire) (l .cache)) (c .if1 .end)
+    BeforeLast (w .last .0) (w .result) (recordLines (a .h) (a .file .now)) (c .if1 .out) (tables (l .realm) (l .terms) (l .runs) (l .wire) (l .cache)) (c .if1 .end)
 ready c =
     let p = c .before .before .before in
     let l = p .loop in
