@@ -20,7 +20,7 @@ use Rattle.terms.specs.Number.{numberIn, termsOf, terms-list}
 use Rattle.terms.specs.Outcome.{Outcome, accept, refuse}
 use Rattle.terms.specs.Valid.{holds, holds-valid}
 use Rattle.messages.specs.Entered.{entered}
-use Rattle.messages.specs.Plan.{known, drafted, Fresh, Ready, NodePlanned, written, known-length}
+use Rattle.messages.specs.Plan.{known, drafted, Fresh, Ready, NodePlanned, withPlan, known-length}
 
 -- ---- definitions
 
@@ -96,7 +96,7 @@ module _ (n : ℕ) (ts : List ℕ) (count : ℕ) (draft : List Node) (root : ℕ
       unfolding addMessageOf
       too-many lt = rw (held, lt-ltb root 16 h, fits, length-all, lt-leb (count + q .count) 512 lt)
 
-      pub all-fit : count + q .count ≤ 512 → accept number (count + q .count) (written ts count q) ≡ addMessageOf n ts count draft root
+      pub all-fit : count + q .count ≤ 512 → accept number (count + q .count) (withPlan ts count q) ≡ addMessageOf n ts count draft root
       unfolding addMessageOf
       all-fit le =
           rw (held, lt-ltb root 16 h, fits, length-all, le-leb (count + q .count) 512 le)

@@ -77,8 +77,8 @@ pub record NodePlanned (ts : List ℕ) (count : ℕ) (draft : List Node) (k : �
   pub later : (j : ℕ) → k < j → getD (q .numbers) j 0 ≡ getD (p .numbers) j 0
 
 -- the table with the planned words written
-abbrev pub written : List ℕ → ℕ → Plan → List ℕ
-written ts count p = known ts count p ++ drop (count + p .count) ts
+abbrev pub withPlan : List ℕ → ℕ → Plan → List ℕ
+withPlan ts count p = known ts count p ++ drop (count + p .count) ts
 
 -- the plan with node k noted
 abbrev pub withNote : Plan → (k number : ℕ) → Plan

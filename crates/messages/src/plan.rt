@@ -8,7 +8,7 @@ use words::pack;
 ghost use mathlib.Core.Path.{_≡_};
 ghost use Prim.Native.Nat.{_+_, _<_, _≤_};
 ghost use lib.ListN.{length};
-ghost use Rattle.messages.specs.Plan.{Fresh, withNote, WordPlanned, Ready, NodePlanned, written};
+ghost use Rattle.messages.specs.Plan.{Fresh, withNote, WordPlanned, Ready, NodePlanned, withPlan};
 
 // The words to put behind the terms, the first `count` of `words`; and for each node of the draft that has been looked
 // at, the number of its term and one, else 0, so that no node is looked at twice.
@@ -115,7 +115,7 @@ pub fn plan_node(terms: &[u64], count: usize, draft: [Node; 16], k: usize, plan:
 // Writes the planned words behind the first `count`.
 pub fn write_plan(terms: &mut [u64], count: usize, plan: Plan)
     requires { ⌜ (length (now terms) ≡ 512) × (count + plan .count ≤ 512) × (plan .count ≤ 32) ⌝ }
-    ensures { λ r. ⌜ now (terms .exit) ≡ written (now (terms .entry)) count plan ⌝ }
+    ensures { λ r. ⌜ now (terms .exit) ≡ withPlan (now (terms .entry)) count plan ⌝ }
 {
     let planned = plan.count;
     let words = plan.words;

@@ -16,7 +16,7 @@ use Rattle.drafts.specs.declared.Node.{Node}
 use Rattle.messages.specs.declared.plan.Plan.{Plan}
 use Rattle.messages.specs.Entered.{entered}
 use Rattle.messages.specs.Lent.{over, start-ready, known-fresh}
-use Rattle.messages.specs.Plan.{known, drafted, Fresh, Ready, NodePlanned, written, known-length}
+use Rattle.messages.specs.Plan.{known, drafted, Fresh, Ready, NodePlanned, withPlan, known-length}
 use Rattle.messages.specs.Planning.{few}
 use Rattle.messages.specs.Standing.{entered-is, longer-entered, standing-here, standing-longer}
 use Rattle.marks.specs.Marks.{withMark}
@@ -106,7 +106,7 @@ module _ (ts : List ℕ) (count : ℕ) (size : length ts ≡ 512) (room : count 
   pub nothing-planned : {p : Plan} → Fresh p → PlanFor ts count [] (record { plan = p; marks = Nothing })
   nothing-planned {p} f =
       let all : count + p .count ≡ count = omega (arith, f .empty) in
-      let same : written ts count p ≡ ts = ap₂ (λ (xs : List ℕ) (k : ℕ). xs ++ drop k ts) (known-fresh ts count f) all ∙ take-append-drop count ts in
+      let same : withPlan ts count p ≡ ts = ap₂ (λ (xs : List ℕ) (k : ℕ). xs ++ drop k ts) (known-fresh ts count f) all ∙ take-append-drop count ts in
       record {
         few = omega (arith, f .empty);
         marks = λ le. tt;
@@ -134,10 +134,10 @@ module _ {ts : List ℕ} {count : ℕ} {ms : List Message} {r : Prepared} (p : P
   unfolding sendOf
   room-known =
       let xs = enteredAll (termsOf ts count) ms in
-      same-room (leb (count + r .plan .count) 512) (fitsIn ts count ms) (count + r .plan .count) (written ts count (r .plan)) (markedBy (r .marks) []) (length xs)
+      same-room (leb (count + r .plan .count) 512) (fitsIn ts count ms) (count + r .plan .count) (withPlan ts count (r .plan)) (markedBy (r .marks) []) (length xs)
       (over xs ts) (markedAll [] xs ms) ts [] (p .sends [])
 
   pub plan-sent : count + r .plan .count ≤ 512 → (ws : List ℕ)
-      → sent (count + r .plan .count) (written ts count (r .plan)) (markedBy (r .marks) ws) ≡ sendOf ts ws count ms
-  plan-sent le ws = subst (λ (b : Bool). cond b (sent (count + r .plan .count) (written ts count (r .plan)) (markedBy (r .marks) ws)) (refused 20 ts ws) ≡ sendOf ts ws count ms)
+      → sent (count + r .plan .count) (withPlan ts count (r .plan)) (markedBy (r .marks) ws) ≡ sendOf ts ws count ms
+  plan-sent le ws = subst (λ (b : Bool). cond b (sent (count + r .plan .count) (withPlan ts count (r .plan)) (markedBy (r .marks) ws)) (refused 20 ts ws) ≡ sendOf ts ws count ms)
       (le-leb (count + r .plan .count) 512 le) (p .sends ws)

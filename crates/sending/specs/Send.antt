@@ -23,7 +23,7 @@ use Rattle.messages.specs.Listed.{addAll}
 use Rattle.messages.specs.Meanings.{meanings}
 use Rattle.messages.specs.Standing.{Standing}
 use Rattle.deduction.specs.Known.{Known}
-use Rattle.messages.specs.Plan.{written}
+use Rattle.messages.specs.Plan.{withPlan}
 use Rattle.sending.specs.declared.Marks.{Marks}
 use Rattle.sending.specs.declared.Marks.the-variants.{Two, Nothing}
 use Rattle.sending.specs.declared.Prepared.{Prepared}
@@ -72,7 +72,7 @@ markedBy Nothing ws = ws
 abbrev pub comes : (ts ws : List ℕ) (count : ℕ) → Prepared → Sending
 comes ts ws count r =
     let all = count + r .plan .count in
-    cond (leb all 512) (sent all (written ts count (r .plan)) (markedBy (r .marks) ws)) (refused 20 ts ws)
+    cond (leb all 512) (sent all (withPlan ts count (r .plan)) (markedBy (r .marks) ws)) (refused 20 ts ws)
 
 -- a plan is for these messages: writing it is sending them
 pub record PlanFor (ts : List ℕ) (count : ℕ) (ms : List Message) (r : Prepared) : Type 0 where

@@ -11,7 +11,7 @@ ghost use mathlib.Core.Path.{_≡_};
 ghost use Prim.Native.Nat.{_+_, _≤_};
 ghost use lib.ListN.{length};
 ghost use Rattle.drafts.specs.Draft.{draftMessage};
-ghost use Rattle.messages.specs.Plan.{written};
+ghost use Rattle.messages.specs.Plan.{withPlan};
 ghost use Rattle.sending.specs.Send.{Plannable, PlanFor, MarksFit, markedBy};
 ghost use Rattle.terms.specs.Meaning.{messageAt};
 
@@ -57,7 +57,7 @@ pub fn plan_messages(
 // Writes what was planned.
 pub fn write_messages(terms: &mut [u64], wire: &mut [u64], count: usize, prepared: Prepared)
     requires { ⌜ (length (now terms) ≡ 512) × (length (now wire) ≡ 8) × (count + prepared .plan .count ≤ 512) × (prepared .plan .count ≤ 32) × MarksFit (prepared .marks) ⌝ }
-    ensures { λ _. ⌜ (now (terms .exit) ≡ written (now (terms .entry)) count (prepared .plan)) × (now (wire .exit) ≡ markedBy (prepared .marks) (now (wire .entry))) ⌝ }
+    ensures { λ _. ⌜ (now (terms .exit) ≡ withPlan (now (terms .entry)) count (prepared .plan)) × (now (wire .exit) ≡ markedBy (prepared .marks) (now (wire .entry))) ⌝ }
 {
     let plan = prepared.plan;
     let marks = prepared.marks;

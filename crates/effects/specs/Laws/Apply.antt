@@ -48,13 +48,13 @@ module _ (t : Tables) (x : Effect) where
 
   module _ {r : Prepared} (f : Writable t x r) where
     -- what the plan says is what the effect says
-    pub plan-applied : written t x (t .realm .terms + r .plan .count) (plans.written (t .terms) (t .realm .terms) (r .plan)) (markedBy (r .marks) (t .wire)) ≡ applied t x
+    pub plan-applied : written t x (t .realm .terms + r .plan .count) (plans.withPlan (t .terms) (t .realm .terms) (r .plan)) (markedBy (r .marks) (t .wire)) ≡ applied t x
     unfolding applied
     plan-applied =
         let yes : fitsIn (t .terms) (t .realm .terms) (messagesOf (x .sends)) ≡ true = sym (room-known (f .plan)) ∙ le-leb (t .realm .terms + r .plan .count) 512 (f .room) in
         ap bySending (plan-sent (f .plan) (f .room) (t .wire) ∙ send-room (t .terms) (t .wire) (t .realm .terms) (messagesOf (x .sends)) yes)
 
-    module _ {ts ws : List ℕ} (sent : (ts ≡ plans.written (t .terms) (t .realm .terms) (r .plan)) × (ws ≡ markedBy (r .marks) (t .wire))) {rs : List ℕ} {opened : ℕ}
+    module _ {ts ws : List ℕ} (sent : (ts ≡ plans.withPlan (t .terms) (t .realm .terms) (r .plan)) × (ws ≡ markedBy (r .marks) (t .wire))) {rs : List ℕ} {opened : ℕ}
         (rows : (rs ≡ changed (t .realm .runs) (x .change) (t .runs)) × (opened ≡ runCount (t .realm .runs) (x .change))) {swept : Swept}
         (kept : swept ≡ cacheOf (t .realm) (t .cache) (x .keeping)) {answer : Answer} (told : answer ≡ answerOf (x .names)) where
       pub all-applied : record {
