@@ -15,8 +15,8 @@ use Rattle.effects.specs.Call.{checked}
 use Rattle.calls.specs.declared.Called.{Called}
 
 -- what the code gave back, beside the lent tables
-abbrev pub outcome : Called → (terms runs wire : List ℕ) → List Entry → Outcome
-outcome r ts rs ws list = record { answer = r .answer; tables = tables (r .realm) ts rs ws list }
+abbrev pub lentOutcome : Called → (terms runs wire : List ℕ) → List Entry → Outcome
+lentOutcome r ts rs ws list = record { answer = r .answer; tables = tables (r .realm) ts rs ws list }
 
 -- 10 for "a table lent with other than its full number of places", looked at first; else as by value
 unfoldable pub lentCall : Tables → Call → Outcome

@@ -12,7 +12,7 @@ use replay::entry::PLACES;
 use terms::rules::REFUSE_TABLES;
 ghost use mathlib.Core.Path.{_≡_};
 ghost use Rattle.realm.specs.Tables.{tables};
-ghost use Rattle.calls.specs.Lent.{outcome, lentCall};
+ghost use Rattle.calls.specs.Lent.{lentOutcome, lentCall};
 
 // A realm after a call, and the answer.
 pub struct Called {
@@ -29,7 +29,7 @@ pub fn call(
     list: &mut [Entry],
     c: Call,
 ) -> Called
-    ensures { λ r. ⌜ outcome r (now (terms .exit)) (now (runs .exit)) (now (wire .exit)) (now (list .exit)) ≡ lentCall (tables h (now (terms .entry)) (now (runs .entry)) (now (wire .entry)) (now (list .entry))) c ⌝ }
+    ensures { λ r. ⌜ lentOutcome r (now (terms .exit)) (now (runs .exit)) (now (wire .exit)) (now (list .exit)) ≡ lentCall (tables h (now (terms .entry)) (now (runs .entry)) (now (wire .entry)) (now (list .entry))) c ⌝ }
 {
     if list.len() != PLACES {
         return Called {

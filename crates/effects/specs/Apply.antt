@@ -25,8 +25,8 @@ pub record Outcome : Type 0 where
   pub tables : Tables
 
 -- what the code gave back, beside the lent tables
-abbrev pub after : After → (terms runs wire : List ℕ) → Outcome
-after r ts rs ws = record { answer = r .answer; tables = tables (r .realm) ts rs ws (r .cache) }
+abbrev pub outcome : After → (terms runs wire : List ℕ) → Outcome
+outcome r ts rs ws = record { answer = r .answer; tables = tables (r .realm) ts rs ws (r .cache) }
 
 -- "A refusal is its number alone. State, wire, cache and terms stay unchanged."
 abbrev pub refuse : Tables → ℕ → Outcome
@@ -44,8 +44,8 @@ realmAfter h clock terms runs entries =
     record { n = h .n; flags = h .flags; ls = h .ls; la = h .la; clock = clock; terms = terms; runs = runs; entries = entries }
 
 -- with these terms and this wire
-abbrev pub written : Tables → Effect → (count : ℕ) (ts ws : List ℕ) → Outcome
-written t x count ts ws =
+abbrev pub appliedWith : Tables → Effect → (count : ℕ) (ts ws : List ℕ) → Outcome
+appliedWith t x count ts ws =
     let h = t .realm in
     let c = cacheOf h (t .cache) (x .keeping) in
     record {
@@ -58,4 +58,4 @@ unfoldable pub applied : Tables → Effect → Outcome
 applied t x =
     let ms = messagesOf (x .sends) in
     let xs = enteredAll (termsOf (t .terms) (t .realm .terms)) ms in
-    written t x (length xs) (over xs (t .terms)) (markedAll (t .wire) xs ms)
+    appliedWith t x (length xs) (over xs (t .terms)) (markedAll (t .wire) xs ms)

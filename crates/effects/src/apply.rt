@@ -11,7 +11,7 @@ use sending::write_messages;
 ghost use mathlib.Core.Path.{_≡_};
 ghost use Rattle.realm.specs.Tables.{tables, Together};
 ghost use Rattle.deciding.specs.Decided.{Writable};
-ghost use Rattle.effects.specs.Apply.{answerOf, after, applied};
+ghost use Rattle.effects.specs.Apply.{answerOf, outcome, applied};
 
 // A realm and its cache after a call, and the answer.
 pub struct After {
@@ -41,7 +41,7 @@ pub fn apply(
     prepared: Prepared,
 ) -> After
     requires { ⌜ Together (tables h (now terms) (now runs) (now wire) cache) × Writable (tables h (now terms) (now runs) (now wire) cache) effect prepared ⌝ }
-    ensures { λ r. ⌜ after r (now (terms .exit)) (now (runs .exit)) (now (wire .exit)) ≡ applied (tables h (now (terms .entry)) (now (runs .entry)) (now (wire .entry)) cache) effect ⌝ }
+    ensures { λ r. ⌜ outcome r (now (terms .exit)) (now (runs .exit)) (now (wire .exit)) ≡ applied (tables h (now (terms .entry)) (now (runs .entry)) (now (wire .entry)) cache) effect ⌝ }
 {
     let change = effect.change;
     let keeping = effect.keeping;

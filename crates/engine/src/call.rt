@@ -15,7 +15,7 @@ ghost use mathlib.Core.Path.{_≡_};
 ghost use Rattle.words.specs.Word.{packed};
 ghost use Rattle.terms.specs.Add.{addOf};
 ghost use Rattle.terms.specs.Valid.{Valid};
-ghost use Rattle.effects.specs.Apply.{after};
+ghost use Rattle.effects.specs.Apply.{outcome};
 ghost use Rattle.realm.specs.Tables.{tables, Together};
 ghost use Rattle.effects.specs.Call.{adding, stepped, called};
 ghost use Rattle.engine.specs.Call.{termed};
@@ -62,7 +62,7 @@ fn take_step(
     s: Step,
 ) -> After
     requires { ⌜ Together (tables h (now terms) (now runs) (now wire) cache) ⌝ }
-    ensures { λ r. ⌜ after r (now (terms .exit)) (now (runs .exit)) (now (wire .exit)) ≡ stepped (tables h (now (terms .entry)) (now (runs .entry)) (now (wire .entry)) cache) s ⌝ }
+    ensures { λ r. ⌜ outcome r (now (terms .exit)) (now (runs .exit)) (now (wire .exit)) ≡ stepped (tables h (now (terms .entry)) (now (runs .entry)) (now (wire .entry)) cache) s ⌝ }
 {
     let decision = decide(h, terms, runs, wire, cache, s);
     let verdict = decision.verdict;
@@ -89,7 +89,7 @@ pub fn call(
     c: Call,
 ) -> After
     requires { ⌜ Together (tables h (now terms) (now runs) (now wire) cache) ⌝ }
-    ensures { λ r. ⌜ after r (now (terms .exit)) (now (runs .exit)) (now (wire .exit)) ≡ called (tables h (now (terms .entry)) (now (runs .entry)) (now (wire .entry)) cache) c ⌝ }
+    ensures { λ r. ⌜ outcome r (now (terms .exit)) (now (runs .exit)) (now (wire .exit)) ≡ called (tables h (now (terms .entry)) (now (runs .entry)) (now (wire .entry)) cache) c ⌝ }
 {
     match c {
         Call::Term { kind, l, r } => {

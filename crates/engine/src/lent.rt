@@ -9,7 +9,7 @@ use realm::tables::tables_hold;
 use replay::entry::Entry;
 use terms::rules::REFUSE_TABLES;
 ghost use mathlib.Core.Path.{_≡_};
-ghost use Rattle.effects.specs.Apply.{after};
+ghost use Rattle.effects.specs.Apply.{outcome};
 ghost use Rattle.realm.specs.Tables.{tables};
 ghost use Rattle.effects.specs.Call.{checked};
 
@@ -22,7 +22,7 @@ pub fn checked_call(
     cache: [Entry; 16],
     c: Call,
 ) -> After
-    ensures { λ r. ⌜ after r (now (terms .exit)) (now (runs .exit)) (now (wire .exit)) ≡ checked (tables h (now (terms .entry)) (now (runs .entry)) (now (wire .entry)) cache) c ⌝ }
+    ensures { λ r. ⌜ outcome r (now (terms .exit)) (now (runs .exit)) (now (wire .exit)) ≡ checked (tables h (now (terms .entry)) (now (runs .entry)) (now (wire .entry)) cache) c ⌝ }
 {
     if !tables_hold(h, terms, runs, wire, cache) {
         return After {

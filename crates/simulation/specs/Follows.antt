@@ -30,7 +30,7 @@ use Rattle.realm.specs.Opening.{header}
 use Rattle.realm.specs.Tables.{Tables, Together}
 use Rattle.decisions.specs.declared.Effect.{Effect}
 use Rattle.decisions.specs.Effects.{messagesOf}
-use Rattle.effects.specs.Apply.{written}
+use Rattle.effects.specs.Apply.{appliedWith}
 use Rattle.simulation.specs.Values.{valuesOf}
 use Rattle.simulation.specs.Mirrors.{Mirrors}
 use Rattle.decisions.specs.Laws.Fits.{EntryReady, EffectFits}
@@ -42,7 +42,7 @@ use Rattle.simulation.specs.Wire.{wire-follows}
 
 -- the tables after an effect, where sending came to these terms and this wire
 abbrev pub next : Tables → Effect → (count : ℕ) (ts ws : List ℕ) → Tables
-next t x count ts ws = written t x count ts ws .tables
+next t x count ts ws = appliedWith t x count ts ws .tables
 
 -- there may be more terms than before, and the wire fits them
 pub record Grows (t : Tables) (count : ℕ) (ts ws : List ℕ) : Type 0 where

@@ -21,13 +21,13 @@ use Rattle.decisions.specs.Effects.{messagesOf, nothing, leaking}
 use Rattle.decisions.specs.Laws.Took.{Took, took9, took10}
 use Rattle.decisions.specs.Laws.Verdict.{decision-takes}
 use Rattle.decisions.specs.Promises.{taken-as}
-use Rattle.effects.specs.Apply.{Outcome, written, applied}
+use Rattle.effects.specs.Apply.{Outcome, appliedWith, applied}
 use Rattle.effects.specs.Call.{byVerdict, stepped, called}
 use Rattle.effects.specs.Laws.Apply.{bySending}
 
 -- what is written, once it is known what came of sending
 pub applied-as : (t : Tables) (x : Effect) {count : ℕ} {ts ws : List ℕ} → fitsIn (t .terms) (t .realm .terms) (messagesOf (x .sends)) ≡ true
-    → sendOf (t .terms) (t .wire) (t .realm .terms) (messagesOf (x .sends)) ≡ sent count ts ws → applied t x ≡ written t x count ts ws
+    → sendOf (t .terms) (t .wire) (t .realm .terms) (messagesOf (x .sends)) ≡ sent count ts ws → applied t x ≡ appliedWith t x count ts ws
 unfolding applied
 applied-as t x f o = ap (bySending t x) (sym (send-room (t .terms) (t .wire) (t .realm .terms) (messagesOf (x .sends)) f) ∙ o)
 
@@ -41,7 +41,7 @@ module _ (t : Tables) (w : Together t) where
   -- an effect that is no more than this message's, or none's, and leaves what was sent as it was
   by-verdict : (s : Step) (x : Effect) → ((y : Effect) → decision t s ≡ verdicts.Takes y → y ≡ x)
       → sendOf (t .terms) (t .wire) (t .realm .terms) (messagesOf (x .sends)) ≡ sent (t .realm .terms) (t .terms) (t .wire)
-      → written t x (t .realm .terms) (t .terms) (t .wire) .tables ≡ t
+      → appliedWith t x (t .realm .terms) (t .terms) (t .wire) .tables ≡ t
       → (v : Verdict) → decision t s ≡ v → byVerdict t v .tables ≡ t
   by-verdict s x is o idle (verdicts.Refused k) d = refl
   by-verdict s x is o idle (verdicts.Takes y) d =

@@ -46,10 +46,10 @@ use Rattle.exchange.specs.declared.call.Call.{Call}
 use Rattle.exchange.specs.declared.call.Answer.the-variants.{Refused}
 use Rattle.replay.specs.declared.entry.Entry.{Entry}
 use Rattle.effects.specs.declared.apply.After.{After}
-use Rattle.effects.specs.Apply.{after}
+use Rattle.effects.specs.Apply.{outcome}
 use Rattle.effects.specs.Call.{checked}
 use Rattle.calls.specs.declared.Called.{Called}
-use Rattle.calls.specs.Lent.{outcome, lentCall, lent-checked, lent-10}
+use Rattle.calls.specs.Lent.{lentOutcome, lentCall, lent-checked, lent-10}
 use Rattle.realm.proofs.header.Realm as 𝓗
 use Rattle.exchange.proofs.call.Call as 𝓒
 use Rattle.effects.proofs.apply.After as 𝓕
@@ -123,7 +123,7 @@ module _ {M : Type 1} (𝓤 : URA M) (H : Heap 𝓤) (A : Atoms 𝓤) (W : Given
   -- ---- the two ways out
 
   exits : (r : Called) → Is 𝓓.the-row r (called-val r ∷ []) → (zs₀ zs₁ zs₂ : List ℕ) (zs₃ : List Entry) → length zs₀ ≡ length (terms .now) → length zs₁ ≡ length (runs .now) → length zs₂ ≡ length (wire .now) → length zs₃ ≡ length (list .now)
-      → outcome r zs₀ zs₁ zs₂ zs₃ ≡ lentCall t c
+      → lentOutcome r zs₀ zs₁ zs₂ zs₃ ≡ lentCall t c
       → ent 𝓤 (⋆ 𝓤 H A (Toks ∷ ‵ (finally R (list .name) zs₃) ∷ ‵ (finally u64 (wire .name) zs₂) ∷ ‵ (finally u32 (runs .name) zs₁) ∷ ‵ (finally u64 (terms .name) zs₀) ∷ [])) (Post (called-val r))
   exits r is zs₀ zs₁ zs₂ zs₃ l₀ l₁ l₂ l₃ e =
       qed W (Toks ∷ ‵ (finally R (list .name) zs₃) ∷ ‵ (finally u64 (wire .name) zs₂) ∷ ‵ (finally u32 (runs .name) zs₁) ∷ ‵ (finally u64 (terms .name) zs₀) ∷ []) ∵
@@ -212,8 +212,8 @@ module _ {M : Type 1} (𝓤 : URA M) (H : Heap 𝓤) (A : Atoms 𝓤) (W : Given
         calls-at ! fm (Core 𝓤 H A mem run) known-core (to-core w) (and-then ! (load ! (from ! (stop !)) (look ! 48 refl)) (and-then ! (load ! (from ! (stop !)) (look ! 26 refl)) (and-then ! (load ! (from ! (stop !)) (look ! 22 refl)) (and-then ! (load ! (from ! (stop !)) (look ! 18 refl)) (and-then ! (load ! (from ! (stop !)) (look ! 16 refl)) (and-then ! (load ! (from ! (stop !)) (look ! 38 refl)) (no-more !))))))) (λ w₂.
         use1 W (later (some (λ (m : After). (Toks₃ ⊛ ‵ (𝓕.the-row .own m (w₂ ∷ []))) ⊛ raw (ensured 𝓤 H A core.ended (core.clauses 𝓤 H A mem run) (κ₀, (κ₁, (κ₂, tt))) to-args tt m)))) (id⊢ 𝓤 _) $ await ! tt $ pick ! (λ m.
         split ! $ move ! (1 ∷ []) $ use1 W (some (λ (zs : Unit {0} × (List ℕ × (List ℕ × (List ℕ × (Unit {0} × (Unit {0} × Unit {0})))))). ‵ (lasts core.ended (κ₀, (κ₁, (κ₂, tt))) to-args zs)
-        ⊛ raw (fact 𝓤 (after m (zs .1 .0) (zs .1 .1 .0) (zs .1 .1 .1 .0) ≡ checked t c)))) (id⊢ 𝓤 _) $ pick ! (λ zs. split ! $ move ! (1 ∷ []) $
-        heard ! (after m (zs .1 .0) (zs .1 .1 .0) (zs .1 .1 .1 .0) ≡ checked t c) (λ m-is.
+        ⊛ raw (fact 𝓤 (outcome m (zs .1 .0) (zs .1 .1 .0) (zs .1 .1 .1 .0) ≡ checked t c)))) (id⊢ 𝓤 _) $ pick ! (λ zs. split ! $ move ! (1 ∷ []) $
+        heard ! (outcome m (zs .1 .0) (zs .1 .1 .0) (zs .1 .1 .1 .0) ≡ checked t c) (λ m-is.
         fsplit ! $ drop ! $ fsplit ! $ fsplit ! $ move ! (1 ∷ []) $ feqL ! (λ l₀′. move ! (1 ∷ []) $ fsplit ! $ fsplit ! $ move ! (1 ∷ []) $ feqL ! (λ l₁′. move ! (1 ∷ []) $ fsplit ! $ fsplit ! $ move ! (1 ∷ []) $ feqL ! (λ l₂′.
         -- [wire's last list; …; runs's; terms's; the tokens and the result; obs; …]
         move ! (1 ∷ []) $ drop ! $ move ! (3 ∷ []) $ split ! $ move ! (1 ∷ []) $ peeks ! 𝓕.the-row (Is 𝓕.the-row) (shows 𝓤 H A 𝓕.the-row) m (w₂ ∷ []) (λ ism.
@@ -232,7 +232,7 @@ module _ {M : Type 1} (𝓤 : URA M) (H : Heap 𝓤) (A : Atoms 𝓤) (W : Given
         -- [κ₃ and true; list's last list; κ₀, κ₁, κ₂ and true; the last lists of wire, runs and terms; …]
         move ! (2 ∷ []) $ split ! $ move ! (1 ∷ []) $ split ! $ move ! (1 ∷ []) $ split ! $ move ! (3 ∷ 2 ∷ 0 ∷ 4 ∷ []) $ group ! 4 $ keep ! (0 ∷ 2 ∷ 3 ∷ 4 ∷ 5 ∷ []) $
         by ! (exits (called (m .realm) (m .answer)) (called-is (m .realm) (m .answer) (after-realm m _ ism) (after-answer m _ ism)) (zs .1 .0) (zs .1 .1 .0) (zs .1 .1 .1 .0) zs₃ l₀′ l₁′ l₂′ l₃′
-        (ap (outcome (called (m .realm) (m .answer)) (zs .1 .0) (zs .1 .1 .0) (zs .1 .1 .1 .0)) z-is ∙ m-is ∙ lent-checked t c sixteen))))))))))))))))))))))))))))))))))))
+        (ap (lentOutcome (called (m .realm) (m .answer)) (zs .1 .0) (zs .1 .1 .0) (zs .1 .1 .1 .0)) z-is ∙ m-is ∙ lent-checked t c sixteen))))))))))))))))))))))))))))))))))))
 
 -- ---- the theorem
 module _ {M : Type 1} (𝓤 : URA M) (H : Heap 𝓤) (A : Atoms 𝓤) (W : Given 𝓤 H A) (mem : Memory → SProp 𝓤) (run : Routine → Fun 𝓤) where

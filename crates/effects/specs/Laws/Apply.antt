@@ -22,7 +22,7 @@ use Rattle.decisions.specs.Laws.Fits.{RowReady, EntryReady}
 use Rattle.decisions.specs.declared.Effect.{Effect}
 use Rattle.decisions.specs.Effects.{messagesOf}
 use Rattle.deciding.specs.Decided.{Writable}
-use Rattle.effects.specs.Apply.{Outcome, refuse, answerOf, realmAfter, written, applied}
+use Rattle.effects.specs.Apply.{Outcome, refuse, answerOf, realmAfter, appliedWith, applied}
 use Rattle.effects.specs.Cache.{cacheOf, EntryRoom}
 use Rattle.effects.specs.Row.{ChangeFits, changed, runCount}
 
@@ -43,12 +43,12 @@ entry-fits t (Forget b) f = tt
 module _ (t : Tables) (x : Effect) where
   -- what is written where sending comes to this
   abbrev pub bySending : Sending → Outcome
-  bySending (sent count ts ws) = written t x count ts ws
+  bySending (sent count ts ws) = appliedWith t x count ts ws
   bySending (refused number ts ws) = refuse t number
 
   module _ {r : Prepared} (f : Writable t x r) where
     -- what the plan says is what the effect says
-    pub plan-applied : written t x (t .realm .terms + r .plan .count) (plans.withPlan (t .terms) (t .realm .terms) (r .plan)) (markedBy (r .marks) (t .wire)) ≡ applied t x
+    pub plan-applied : appliedWith t x (t .realm .terms + r .plan .count) (plans.withPlan (t .terms) (t .realm .terms) (r .plan)) (markedBy (r .marks) (t .wire)) ≡ applied t x
     unfolding applied
     plan-applied =
         let yes : fitsIn (t .terms) (t .realm .terms) (messagesOf (x .sends)) ≡ true = sym (room-known (f .plan)) ∙ le-leb (t .realm .terms + r .plan .count) 512 (f .room) in

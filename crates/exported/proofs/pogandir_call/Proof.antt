@@ -43,7 +43,7 @@ use Rattle.realm.specs.Tables.{Tables as RealmTables}
 use Rattle.exchange.specs.declared.call.Call.{Call}
 use Rattle.replay.specs.declared.entry.Entry.{Entry}
 use Rattle.calls.specs.declared.Called.{Called}
-use Rattle.calls.specs.Lent.{outcome, lentCall}
+use Rattle.calls.specs.Lent.{lentOutcome, lentCall}
 use Rattle.exported.specs.declared.Record.{Record}
 use Rattle.exported.specs.declared.Reply.{Reply}
 use Rattle.exported.specs.Numbers.{callOf, replyOf, replied}
@@ -198,8 +198,8 @@ module _ {M : Type 1} (𝓤 : URA M) (H : Heap 𝓤) (A : Atoms 𝓤) (W : Given
         calls-at ! fm (Lent 𝓤 H A mem run) known-lent (to-lent c) (and-then ! (load ! (from ! (stop !)) (look ! 32 refl)) (and-then ! (load ! (from ! (stop !)) (look ! 16 refl)) (and-then ! (load ! (from ! (stop !)) (look ! 12 refl)) (and-then ! (load ! (from ! (stop !)) (look ! 8 refl)) (and-then ! (load ! (from ! (stop !)) (look ! 4 refl)) (and-then ! (load ! (from ! (stop !)) (look ! 2 refl)) (no-more !))))))) (λ w₂.
         use1 W (later (some (λ (x : Called). (Toks ⊛ ‵ (𝓓.the-row .own x (w₂ ∷ []))) ⊛ raw (ensured 𝓤 H A lent.ended (lent.clauses 𝓤 H A mem run) κs (to-args c) tt x)))) (id⊢ 𝓤 _) $ await ! tt $ pick ! (λ x.
         split ! $ move ! (1 ∷ []) $ use1 W (some (λ (zs : Unit {0} × (List ℕ × (List ℕ × (List ℕ × (List Entry × (Unit {0} × Unit {0})))))). ‵ (lasts lent.ended κs (to-args c) zs)
-        ⊛ raw (fact 𝓤 (outcome x (zs .1 .0) (zs .1 .1 .0) (zs .1 .1 .1 .0) (zs .1 .1 .1 .1 .0) ≡ lentCall t c)))) (id⊢ 𝓤 _) $ pick ! (λ zs. split ! $ move ! (1 ∷ []) $
-        heard ! (outcome x (zs .1 .0) (zs .1 .1 .0) (zs .1 .1 .1 .0) (zs .1 .1 .1 .1 .0) ≡ lentCall t c) (λ x-is.
+        ⊛ raw (fact 𝓤 (lentOutcome x (zs .1 .0) (zs .1 .1 .0) (zs .1 .1 .1 .0) (zs .1 .1 .1 .1 .0) ≡ lentCall t c)))) (id⊢ 𝓤 _) $ pick ! (λ zs. split ! $ move ! (1 ∷ []) $
+        heard ! (lentOutcome x (zs .1 .0) (zs .1 .1 .0) (zs .1 .1 .1 .0) (zs .1 .1 .1 .1 .0) ≡ lentCall t c) (λ x-is.
         fsplit ! $ drop ! $ fsplit ! $ fsplit ! $ move ! (1 ∷ []) $ feqL ! (λ l₀′. move ! (1 ∷ []) $ fsplit ! $ fsplit ! $ move ! (1 ∷ []) $ feqL ! (λ l₁′. move ! (1 ∷ []) $ fsplit ! $ fsplit ! $ move ! (1 ∷ []) $ feqL ! (λ l₂′.
         move ! (1 ∷ []) $ fsplit ! $ fsplit ! $ move ! (1 ∷ []) $ feqL ! (λ l₃′.
         -- [list's last list; …; wire's; runs's; terms's; the tokens and the result; q's; …]

@@ -10,7 +10,7 @@ use Rattle.records.specs.declared.record.Record.the-variants as records
 use Rattle.records.specs.Fields.{Bytes}
 use Rattle.records.specs.Records.{recordAt}
 use Rattle.records.specs.Promises.{step-on}
-use Rattle.effects.specs.Apply.{after}
+use Rattle.effects.specs.Apply.{outcome}
 use Rattle.walkfile.proofs.Laws.{not-a-call}
 use Rattle.lines.specs.Lines.{endLine}
 use Rattle.fields.specs.Placed.{wrote-as}
@@ -104,7 +104,7 @@ loop-again c =
       k .kept .1 .1 .0 ∙ l .inv .2,
       k .kept .1 .1 .1 .0 ∙ l .inv .3,
       goes-on (a .file .now) (h .last .0) (h .result) (recordLines (a .h) (a .file .now)) (l .out) t (l .at) (l .number) (l .end) (l .inv .4) (m .0) (m .1 .0)
-          (after (k .result) (k .last .1 .0) (k .last .1 .1 .0) (k .last .1 .1 .1 .0)) (w .last .0) (w .result) read sized (k .ensures) (w .ensures .0) (w .ensures .1 (omega (arith, room p .0))),
+          (outcome (k .result) (k .last .1 .0) (k .last .1 .1 .0) (k .last .1 .1 .1 .0)) (w .last .0) (w .result) read sized (k .ensures) (w .ensures .0) (w .ensures .1 (omega (arith, room p .0))),
     )
 
 write-file-line-requires : tie.Need-write-file-line-requires Inv-loop μ-loop
