@@ -48,7 +48,7 @@ use Rattle.replay.specs.declared.entry.Entry.{Entry}
 use Rattle.replay.specs.declared.entry.Answer.{Answer}
 use Rattle.replay.specs.declared.entry.Answer.the-variants.{Refused}
 use Rattle.replay.specs.declared.cache.After.{After}
-use Rattle.replay.specs.Cache.{Outcome, refused, outcome}
+use Rattle.replay.specs.Cache.{CacheOutcome, refused, cacheOutcome}
 use Rattle.replay.proofs.entry.Entry.Laws as 𝓔′
 use Rattle.replay.proofs.cache.After as 𝓚
 use Rattle.replay.proofs.cache.After.Laws as 𝓚′
@@ -68,7 +68,7 @@ pub record Call : Type 2 where
   pub numbers : Plains (fields type)
   pub last : (x : type .D) → Last (row type .exit yes) x
   pub silent : (x : type .D) (w : Last (row type .exit yes) x) → left (row type .exit yes) x w ≡ ftrue
-  pub def : List Entry → ℕ → type .D → Outcome
+  pub def : List Entry → ℕ → type .D → CacheOutcome
   pub def-10 : (list : List Entry) (count : ℕ) (x : type .D) → (length list ≡ 16 → ⊥) → def list count x ≡ refused 10 list
   pub core : Name
 
@@ -126,7 +126,7 @@ module _ (c : Call) {M : Type 1} (𝓤 : URA M) where
   by-value-clauses κs a = record {
     ghost = Unit {0};
     requires = λ _. emp 𝓤;
-    ensures = λ _ r _. fact 𝓤 (outcome (r .answer) (r .places) ≡ c .def (a .0) (a .1 .0) (a .1 .1 .0));
+    ensures = λ _ r _. fact 𝓤 (cacheOutcome (r .answer) (r .places) ≡ c .def (a .0) (a .1 .0) (a .1 .1 .0));
   }
 
   abbrev lent : Ended
@@ -144,7 +144,7 @@ module _ (c : Call) {M : Type 1} (𝓤 : URA M) where
   lent-clauses κs a = record {
     ghost = Unit {0};
     requires = λ _. emp 𝓤;
-    ensures = λ _ r end. fact 𝓤 (outcome r (now (end .0)) ≡ c .def (now (a .0)) (a .1 .0) (a .1 .1 .0));
+    ensures = λ _ r end. fact 𝓤 (cacheOutcome r (now (end .0)) ≡ c .def (now (a .0)) (a .1 .0) (a .1 .1 .0));
   }
 
   -- the list is given to `store` for good, and nothing is kept of the numbers
@@ -176,7 +176,7 @@ module _ (c : Call) {M : Type 1} (𝓤 : URA M) (H : Heap 𝓤) (A : Atoms 𝓤)
   abbrev Post : Val → SProp 𝓤
   Post = walkOf 𝓤 H A (lent c 𝓤) (stayed c 𝓤) (lent-clauses c 𝓤) .post (((κ, tt), (q, tt), tt, a, at), tt)
 
-  exits : (r : Answer) → Is 𝓒.the-row r (answer-val r ∷ []) → (zs : List Entry) → length zs ≡ length ys → outcome r zs ≡ c .def ys count e → ent 𝓤 (⋆ 𝓤 H A ((‵ (flft κ q) ⊛ ‵ ftrue) ∷ ‵ (finally R γ zs) ∷ [])) (Post (answer-val r))
+  exits : (r : Answer) → Is 𝓒.the-row r (answer-val r ∷ []) → (zs : List Entry) → length zs ≡ length ys → cacheOutcome r zs ≡ c .def ys count e → ent 𝓤 (⋆ 𝓤 H A ((‵ (flft κ q) ⊛ ‵ ftrue) ∷ ‵ (finally R γ zs) ∷ [])) (Post (answer-val r))
   exits r is zs l says-so =
       qed W ((‵ (flft κ q) ⊛ ‵ ftrue) ∷ ‵ (finally R γ zs) ∷ []) ∵
       suffices ! _ (ends-at 𝓤 H A (lent c 𝓤) (stayed c 𝓤) (lent-clauses c 𝓤) W (((κ, tt), (q, tt), tt, a, at), tt) (answer-val r) r (zs, (tt, (c .last e, tt))) (l, (tt, (tt, tt)))) $ says ! says-so $ frame ! $
@@ -228,7 +228,7 @@ module _ (c : Call) {M : Type 1} (𝓤 : URA M) (H : Heap 𝓤) (A : Atoms 𝓤)
         use0 W (raw (Core c 𝓤 H A .pre (to-core w))) (goes-core w is) $
         calls-at ! fm (Core c 𝓤 H A) known-core (to-core w) (and-then ! (load ! (from ! (stop !)) (look ! 16 refl)) (and-then ! (load ! (from ! (stop !)) (look ! 26 refl)) (and-then ! (load ! (from ! (stop !)) (look ! 24 refl)) (no-more !)))) (λ w₂.
         use1 W (later (some (λ (k : After). (‵ ftrue ⊛ ‵ (𝓚.the-row .own k (w₂ ∷ []))) ⊛ raw (ensured 𝓤 H A (by-value c 𝓤) (by-value-clauses c 𝓤) tt (ys, (count, (e, tt))) tt k)))) (id⊢ 𝓤 _) $ await ! tt $ pick ! (λ k.
-        split ! $ move ! (1 ∷ []) $ use1 W (raw (fact 𝓤 (outcome (k .answer) (k .places) ≡ c .def ys count e))) (exE 𝓤 _ (λ ws. snd∗ 𝓤 (sem 𝓤 H A (lasts (by-value c 𝓤) tt (ys, (count, (e, tt))) ws)) (fact 𝓤 (outcome (k .answer) (k .places) ≡ c .def ys count e)))) $ heard ! (outcome (k .answer) (k .places) ≡ c .def ys count e) (λ k-is. split ! $ drop ! $
+        split ! $ move ! (1 ∷ []) $ use1 W (raw (fact 𝓤 (cacheOutcome (k .answer) (k .places) ≡ c .def ys count e))) (exE 𝓤 _ (λ ws. snd∗ 𝓤 (sem 𝓤 H A (lasts (by-value c 𝓤) tt (ys, (count, (e, tt))) ws)) (fact 𝓤 (cacheOutcome (k .answer) (k .places) ≡ c .def ys count e)))) $ heard ! (cacheOutcome (k .answer) (k .places) ≡ c .def ys count e) (λ k-is. split ! $ drop ! $
         peeks ! 𝓚.the-row (Is 𝓚.the-row) (shows 𝓤 H A 𝓚.the-row) k (w₂ ∷ []) (λ isk.
         land ! (from ! (stop !)) (init ! 22 refl (after-typed 𝓤 H A W k _ isk .0)) $ drop ! $ rewrite ! 21 (λ (u : Val). ‵ (fat fullShare 𝓚′.mir l₄ 0 u)) (ap only (after-val k _ isk)) refl $
         -- store(list, after.places)

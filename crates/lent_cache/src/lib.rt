@@ -2,7 +2,7 @@
 // places are stored back. Each function with a `&[Entry]` or a `&mut [Entry]` in it is proved by a walk of its MIR, by hand.
 ghost use mathlib.Core.Path.{_≡_};
 ghost use lib.ListN.{length};
-ghost use Rattle.replay.specs.Cache.{outcome, remembered, forgotten};
+ghost use Rattle.replay.specs.Cache.{cacheOutcome, remembered, forgotten};
 use replay::cache;
 use replay::entry::Answer;
 use replay::entry::EMPTY;
@@ -39,7 +39,7 @@ pub fn store(list: &mut [Entry], places: [Entry; PLACES])
 
 // Puts `e` behind the entries of the list. Refused: 10, 18 and 19.
 pub fn remember(list: &mut [Entry], count: usize, e: Entry) -> Answer
-    ensures { λ r. ⌜ outcome r (now (list .exit)) ≡ remembered (now (list .entry)) count e ⌝ }
+    ensures { λ r. ⌜ cacheOutcome r (now (list .exit)) ≡ remembered (now (list .entry)) count e ⌝ }
 {
     if list.len() != PLACES {
         return Answer::Refused(REFUSE_TABLES);
@@ -51,7 +51,7 @@ pub fn remember(list: &mut [Entry], count: usize, e: Entry) -> Answer
 
 // Forgets the entries of a principal whose life is over. Refused: 10.
 pub fn forget(list: &mut [Entry], count: usize, p: Purge) -> Answer
-    ensures { λ r. ⌜ outcome r (now (list .exit)) ≡ forgotten (now (list .entry)) count p ⌝ }
+    ensures { λ r. ⌜ cacheOutcome r (now (list .exit)) ≡ forgotten (now (list .entry)) count p ⌝ }
 {
     if list.len() != PLACES {
         return Answer::Refused(REFUSE_TABLES);

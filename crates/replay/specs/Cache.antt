@@ -65,25 +65,25 @@ becomes list count xs = record { places = written list count xs; count = length 
 -- ---- the two calls
 
 -- What a call comes to: "a refusal is its number alone"; an accepted call has the count of entries after it. Either has the list after it.
-pub data Outcome : Type 0 where
-  refused : (number : ℕ) (list : List Entry) → Outcome
-  accepted : (count : ℕ) (list : List Entry) → Outcome
+pub data CacheOutcome : Type 0 where
+  refused : (number : ℕ) (list : List Entry) → CacheOutcome
+  accepted : (count : ℕ) (list : List Entry) → CacheOutcome
 
 -- the paper's number or value for each case of an answer, beside the list that the call leaves
-abbrev pub outcome : Answer → List Entry → Outcome
-outcome (Count count) list = accepted count list
-outcome (Refused number) list = refused number list
+abbrev pub cacheOutcome : Answer → List Entry → CacheOutcome
+cacheOutcome (Count count) list = accepted count list
+cacheOutcome (Refused number) list = refused number list
 
 -- "10 for a list or count that does not fit": other than sixteen places, or a count above sixteen
 unfoldable pub fits : List Entry → ℕ → Bool
 fits list count = eqb (length list) 16 && leb count 16
 
 -- a call after which the entries are `xs`
-abbrev pub holding : List Entry → ℕ → List Entry → Outcome
+abbrev pub holding : List Entry → ℕ → List Entry → CacheOutcome
 holding list count xs = let s = becomes list count xs in accepted (s .count) (s .places)
 
 -- "remember then 18 or 19 as in step 5", which "remembers b, K, Ta"
-unfoldable pub remembered : List Entry → ℕ → Entry → Outcome
+unfoldable pub remembered : List Entry → ℕ → Entry → CacheOutcome
 remembered list count e =
     cond (not (fits list count)) (refused 10 list)
     (cond (present (entries list count) e) (refused 18 list)
@@ -91,7 +91,7 @@ remembered list count e =
     (holding list count (entries list count ++ (e ∷ [])))))
 
 -- step 8
-unfoldable pub forgotten : List Entry → ℕ → Purge → Outcome
+unfoldable pub forgotten : List Entry → ℕ → Purge → CacheOutcome
 forgotten list count p =
     cond (not (fits list count)) (refused 10 list)
     (holding list count (kept p (entries list count)))

@@ -13,7 +13,7 @@ use Rattle.replay.specs.declared.entry.Entry.{Entry}
 use Rattle.replay.specs.declared.entry.Purge.{Purge}
 use Rattle.replay.specs.declared.entry.Answer.{Answer}
 use Rattle.replay.specs.declared.entry.Answer.the-variants.{Count, Refused}
-use Rattle.replay.specs.Cache.{empty, present, stays, kept, entries, Outcome, refused, accepted, fits, remembered, forgotten}
+use Rattle.replay.specs.Cache.{empty, present, stays, kept, entries, CacheOutcome, refused, accepted, fits, remembered, forgotten}
 use Rattle.replay.specs.Cache.Entries.{present-of, of-present, filter-length, filter-of, of-filter, goes, goes-if}
 use Rattle.replay.specs.Cache.Places.{append-length, held-count, held-entries, held-length, held-freed, held-past}
 use Rattle.replay.specs.Cache.Calls.{fits-is, fits-list, fits-count, remembered-back, remembered-kept, remembered-18, forgotten-back, forgotten-kept}
@@ -99,12 +99,12 @@ goes-exactly p x = (goes p x, λ h. goes-if p x (h .0) (h .1))
 
 -- ---- "Places at or past a table's count are never read": two lists with the same entries get the same answer
 
-abbrev pub answered : Outcome → Answer
+abbrev pub answered : CacheOutcome → Answer
 answered (refused number list) = Refused number
 answered (accepted count list) = Count count
 
 module _ (list other : List Entry) (count : ℕ) (size : length list ≡ length other) (same-entries : entries list count ≡ entries other count) where
-  tested : (t : Bool) (number : ℕ) (o r : Outcome) → answered o ≡ answered r → answered (cond t (refused number list) o) ≡ answered (cond t (refused number other) r)
+  tested : (t : Bool) (number : ℕ) (o r : CacheOutcome) → answered o ≡ answered r → answered (cond t (refused number list) o) ≡ answered (cond t (refused number other) r)
   tested true number o r h = refl
   tested false number o r h = h
 

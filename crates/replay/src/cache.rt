@@ -3,7 +3,7 @@
 ghost use mathlib.Core.Path.{_≡_};
 ghost use mathlib.Core.List.{[], _∷_, _++_};
 ghost use Prim.Native.Nat.{_<_, _≤_};
-ghost use Rattle.replay.specs.Cache.{same, present, stays, kept, entries, becomes, refused, outcome, remembered, forgotten};
+ghost use Rattle.replay.specs.Cache.{same, present, stays, kept, entries, becomes, refused, cacheOutcome, remembered, forgotten};
 use crate::entry::Answer;
 use crate::entry::EMPTY;
 use crate::entry::Entry;
@@ -97,7 +97,7 @@ pub fn sweep(places: [Entry; PLACES], count: usize, p: Purge) -> Swept
 }
 
 fn refuse(places: [Entry; PLACES], number: u8) -> After
-    ensures { λ r. ⌜ outcome (r .answer) (r .places) ≡ refused number places ⌝ }
+    ensures { λ r. ⌜ cacheOutcome (r .answer) (r .places) ≡ refused number places ⌝ }
 {
     After {
         places: places,
@@ -107,7 +107,7 @@ fn refuse(places: [Entry; PLACES], number: u8) -> After
 
 // Puts `e` behind the entries. Refused: 10, 18 and 19.
 pub fn remember(places: [Entry; PLACES], count: usize, e: Entry) -> After
-    ensures { λ r. ⌜ outcome (r .answer) (r .places) ≡ remembered places count e ⌝ }
+    ensures { λ r. ⌜ cacheOutcome (r .answer) (r .places) ≡ remembered places count e ⌝ }
 {
     if PLACES < count {
         return refuse(places, REFUSE_TABLES);
@@ -128,7 +128,7 @@ pub fn remember(places: [Entry; PLACES], count: usize, e: Entry) -> After
 
 // Forgets the entries of a principal whose life is over. Refused: 10.
 pub fn forget(places: [Entry; PLACES], count: usize, p: Purge) -> After
-    ensures { λ r. ⌜ outcome (r .answer) (r .places) ≡ forgotten places count p ⌝ }
+    ensures { λ r. ⌜ cacheOutcome (r .answer) (r .places) ≡ forgotten places count p ⌝ }
 {
     if PLACES < count {
         return refuse(places, REFUSE_TABLES);

@@ -9,7 +9,7 @@ use lib.ListN.{length}
 use borrow.Author.Tests.{not-false, eqb-true, eqb-false, leb-true, le-leb, lt-leb, eq-eqb, ne-eqb}
 use Rattle.replay.specs.declared.entry.Entry.{Entry}
 use Rattle.replay.specs.declared.entry.Purge.{Purge}
-use Rattle.replay.specs.Cache.{present, kept, entries, Outcome, refused, accepted, holding, fits, remembered, forgotten}
+use Rattle.replay.specs.Cache.{present, kept, entries, CacheOutcome, refused, accepted, holding, fits, remembered, forgotten}
 
 -- ---- the ways out of a call
 
@@ -64,12 +64,12 @@ module _ (list : List Entry) (count : ℕ) where
 
 module _ (list : List Entry) (number n : ℕ) (after : List Entry) where
   -- a call that is accepted has passed each test
-  passed : (t : Bool) (o : Outcome) → cond t (refused number list) o ≡ accepted n after → (t ≡ false) × (o ≡ accepted n after)
+  passed : (t : Bool) (o : CacheOutcome) → cond t (refused number list) o ≡ accepted n after → (t ≡ false) × (o ≡ accepted n after)
   passed true o h = absurd (let z : _≡_ {A = ℕ} 0 1 = cc in omega arith)
   passed false o h = (refl, h)
 
   -- a call that is refused was stopped by a test, or goes on
-  stopped : (t : Bool) (o : Outcome) → (o ≡ refused n after → after ≡ list) → cond t (refused number list) o ≡ refused n after → after ≡ list
+  stopped : (t : Bool) (o : CacheOutcome) → (o ≡ refused n after → after ≡ list) → cond t (refused number list) o ≡ refused n after → after ≡ list
   stopped true o k h = cc
   stopped false o k h = k h
 
