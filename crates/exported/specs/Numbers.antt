@@ -46,7 +46,7 @@ replied o = (replyOf (record { realm = o .tables .realm; answer = o .answer }), 
 -- ---- a listing
 
 -- whether it was written, its bytes' number or else 0, and the buffer
-abbrev pub shown : listing.Outcome → Listed × List ℕ
+abbrev pub shown : listing.ListOutcome → Listed × List ℕ
 shown (listing.written count buffer) = (record { fits = true; count = count }, buffer)
 shown (listing.no-room buffer) = (record { fits = false; count = 0 }, buffer)
 

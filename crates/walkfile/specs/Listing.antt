@@ -73,16 +73,16 @@ abbrev pub listingBytes : ℕ
 listingBytes = 224758
 
 -- what listing a file does to a buffer
-pub data Outcome : Type 0 where
-  written : (count : ℕ) (buffer : List ℕ) → Outcome
-  no-room : (buffer : List ℕ) → Outcome
+pub data ListOutcome : Type 0 where
+  written : (count : ℕ) (buffer : List ℕ) → ListOutcome
+  no-room : (buffer : List ℕ) → ListOutcome
 
 -- what the code gave back, beside the buffer
-abbrev pub outcome : Listing → List ℕ → Outcome
-outcome (Written count) buffer = written count buffer
-outcome NoRoom buffer = no-room buffer
+abbrev pub listOutcome : Listing → List ℕ → ListOutcome
+listOutcome (Written count) buffer = written count buffer
+listOutcome NoRoom buffer = no-room buffer
 
 -- the listing stands at the start of a buffer that has room, and no other place is changed
-unfoldable pub listed : List ℕ → List ℕ → Outcome
+unfoldable pub listed : List ℕ → List ℕ → ListOutcome
 listed file buffer =
     cond (ltb (length buffer) listingBytes) (no-room buffer) (written (length (listingOf file)) (placed buffer 0 (listingOf file)))

@@ -21,7 +21,7 @@ ghost use Prim.Native.Nat.{_≤_};
 ghost use lib.ListN.{length};
 ghost use Rattle.fields.specs.Placed.{Wrote};
 ghost use Rattle.walkfile.specs.Walking.{Walkable};
-ghost use Rattle.walkfile.specs.Listing.{listingBytes, walkLines, outcome, listed};
+ghost use Rattle.walkfile.specs.Listing.{listingBytes, walkLines, listOutcome, listed};
 
 // Room for any listing. A call takes at least 7 bytes of the file, so a file of 65,536 bytes has at most 9,360 of them.
 // With the header's line and that of refusal 3 these are 9,362 lines of at most 24 bytes, and a last one of at most 70.
@@ -79,7 +79,7 @@ fn walk_records(h: Realm, file: &[u8], out: &mut [u8]) -> usize
 
 // The listing of a file, whatever its bytes.
 pub fn list(file: &[u8], out: &mut [u8]) -> Listing
-    ensures { λ r. ⌜ outcome r (now (out .exit)) ≡ listed (now (file .entry)) (now (out .entry)) ⌝ }
+    ensures { λ r. ⌜ listOutcome r (now (out .exit)) ≡ listed (now (file .entry)) (now (out .entry)) ⌝ }
 {
     if out.len() < LISTING_BYTES {
         return Listing::NoRoom;

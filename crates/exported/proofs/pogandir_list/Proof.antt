@@ -2,7 +2,7 @@
 use mathlib.Core.Path.{sym, ap, _∙_}
 use borrow.Author.Needs.{needs}
 use Rattle.walkfile.specs.declared.Listing.{Listing}
-use Rattle.walkfile.specs.Listing.{outcome}
+use Rattle.walkfile.specs.Listing.{listOutcome}
 use Rattle.exported.specs.Numbers.{shown}
 use Rattle.exported.proofs.pogandir_list.Statement.{statement}
 use Rattle.exported.proofs.pogandir_list.Tie as tie
@@ -22,7 +22,7 @@ same-length c = search needs
 returns : tie.Need-returns
 returns c =
     let l = c .before .before .before .before .before .list in
-    ap shown (ap (λ (r : Listing). outcome r (l .last .1 .0)) (sym (c .before .count .given .1)) ∙ l .ensures)
+    ap shown (ap (λ (r : Listing). listOutcome r (l .last .1 .0)) (sym (c .before .count .given .1)) ∙ l .ensures)
 
 same-length-2 : tie.Need-same-length-2
 same-length-2 c = search needs
@@ -30,7 +30,7 @@ same-length-2 c = search needs
 returns-2 : tie.Need-returns-2
 returns-2 c =
     let l = c .before .before .before .before .list in
-    ap shown (ap (λ (r : Listing). outcome r (l .last .1 .0)) (sym (c .enum-told .given .1)) ∙ l .ensures)
+    ap shown (ap (λ (r : Listing). listOutcome r (l .last .1 .0)) (sym (c .enum-told .given .1)) ∙ l .ensures)
 
 pub pogandir-list-spec : {M : Type 1} → statement M
 pogandir-list-spec =

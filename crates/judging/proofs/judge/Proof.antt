@@ -6,7 +6,7 @@ use native.Mathlib.Omega.{arith}
 use lib.ListN.{replicate, length-replicate}
 use borrow.Author.Needs.{needs}
 use Rattle.walkfile.specs.declared.Listing.{Listing}
-use Rattle.walkfile.specs.Listing.{outcome, written, listed}
+use Rattle.walkfile.specs.Listing.{listOutcome, written, listed}
 use Rattle.walkfile.specs.Promises.{counts, start-is}
 use Rattle.comparison.specs.Compare.{difference}
 use Rattle.judging.specs.Laws.{has-room}
@@ -30,7 +30,7 @@ wrote : (c : tie.After-known-told)
     → written (c .before .end .given .0 .0) (c .before .before .before .before .list .last .1 .0)
     ≡ listed (c .before .before .before .before .before .before .before .before .args .file .now) (replicate 224758 0)
 wrote c = let l = c .before .before .before .before .list in
-    ap (λ (r : Listing). outcome r (l .last .1 .0)) (sym (c .before .end .given .1)) ∙ l .ensures
+    ap (λ (r : Listing). listOutcome r (l .last .1 .0)) (sym (c .before .end .given .1)) ∙ l .ensures
 
 array-share-prefix-out : tie.Need-array-share-prefix-out
 array-share-prefix-out c = counts _ _ _ _ (wrote c) .0
@@ -44,7 +44,7 @@ first-difference-requires c κs = search needs
 returns : tie.Need-returns
 returns c =
     let l = c .before .before .before .list in
-    let none = ap (λ (r : Listing). outcome r (l .last .1 .0)) (sym (c .enum-told .given .1)) ∙ l .ensures in
+    let none = ap (λ (r : Listing). listOutcome r (l .last .1 .0)) (sym (c .enum-told .given .1)) ∙ l .ensures in
     absurd (has-room _ (replicate 224758 0) (l .last .1 .0) (omega (arith, length-replicate {A = ℕ} 224758 0)) none)
 
 returns-2 : tie.Need-returns-2

@@ -4,7 +4,7 @@ use borrow.Author.Needs.{needs}
 use lib.Seq.{length-take-le}
 use Rattle.io.specs.Counts.{Counts}
 use Rattle.walkfile.specs.declared.Listing.{Listing}
-use Rattle.walkfile.specs.Listing.{outcome}
+use Rattle.walkfile.specs.Listing.{listOutcome}
 use Rattle.walkfile.specs.Promises.{counts}
 use Rattle.walk.proofs.main.Statement.{statement}
 use Rattle.walk.proofs.main.Tie as tie
@@ -43,7 +43,7 @@ enum-known-end c = search needs
 within : (c : tie.After-known-told) → Counts (c .before .end .given .0 .0) (c .before .before .before .before .list .last .1 .0)
 within c =
     let l = c .before .before .before .before .list in
-    counts _ _ _ _ (ap (λ (r : Listing). outcome r (l .last .1 .0)) (sym (c .before .end .given .1)) ∙ l .ensures)
+    counts _ _ _ _ (ap (λ (r : Listing). listOutcome r (l .last .1 .0)) (sym (c .before .end .given .1)) ∙ l .ensures)
 
 array-share-prefix-out : tie.Need-array-share-prefix-out
 array-share-prefix-out c = within c .0
