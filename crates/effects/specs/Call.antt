@@ -37,7 +37,7 @@ pub record Adding : Type 0 where
   pub realm : Realm
   pub table : List ℕ
 
-abbrev pub adding : Realm → terms.Outcome → Adding
+abbrev pub adding : Realm → terms.TermOutcome → Adding
 adding h o = record { answer = numbered (o .answer); realm = withTerms h (o .count); table = o .table }
 
 abbrev pub withTerm : Tables → Adding → Outcome

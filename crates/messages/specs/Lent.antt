@@ -17,7 +17,7 @@ use Rattle.drafts.specs.Draft.{draftMessage, draftFits}
 use Rattle.terms.specs.Meaning.{messageAt}
 use Rattle.terms.specs.Message.{Message}
 use Rattle.terms.specs.Number.{numberIn, termsOf, terms-list}
-use Rattle.terms.specs.Outcome.{Outcome, accept, refuse}
+use Rattle.terms.specs.Outcome.{TermOutcome, accept, refuse}
 use Rattle.terms.specs.Valid.{holds, holds-valid}
 use Rattle.messages.specs.Entered.{entered}
 use Rattle.messages.specs.Plan.{known, drafted, Fresh, Ready, NodePlanned, withPlan, known-length}
@@ -25,7 +25,7 @@ use Rattle.messages.specs.Plan.{known, drafted, Fresh, Ready, NodePlanne
 -- ---- definitions
 
 -- what the code's answer comes to
-abbrev pub outcome : Stored → (count : ℕ) → List ℕ → Outcome
+abbrev pub outcome : Stored → (count : ℕ) → List ℕ → TermOutcome
 outcome (At i count′) count ts = accept i count′ ts
 outcome (Refused r) count ts = refuse r count ts
 
@@ -34,11 +34,11 @@ abbrev pub over : List ℕ → List ℕ → List ℕ
 over xs ts = xs ++ drop (length xs) ts
 
 -- the terms xs, m among them, laid over the table; 20 if "the new terms do not all fit"
-abbrev pub laid : (xs : List ℕ) (m : Message) (count : ℕ) (ts : List ℕ) → Outcome
+abbrev pub laid : (xs : List ℕ) (m : Message) (count : ℕ) (ts : List ℕ) → TermOutcome
 laid xs m count ts = cond (leb (length xs) 512) (accept (numberIn xs m) (length xs) (over xs ts)) (refuse 20 count ts)
 
 -- 10 for tables that do not hold together, 6 for a draft with a field out of range or a part that is not present, then 20
-unfoldable pub addMessageOf : (n : ℕ) (ts : List ℕ) (count : ℕ) (draft : List Node) (root : ℕ) → Outcome
+unfoldable pub addMessageOf : (n : ℕ) (ts : List ℕ) (count : ℕ) (draft : List Node) (root : ℕ) → TermOutcome
 addMessageOf n ts count draft root =
     let m = draftMessage (messageAt ts) draft root in
     cond (holds n ts count)

@@ -18,7 +18,7 @@ use Rattle.drafts.specs.Writes.{Writes, draft-writes}
 use Rattle.terms.specs.Meaning.{messageAt, messages-same}
 use Rattle.terms.specs.Message.{Message}
 use Rattle.terms.specs.Number.{numberIn, termsOf, terms-length, terms-agree, terms-list}
-use Rattle.terms.specs.Outcome.{Outcome, accept, refuse}
+use Rattle.terms.specs.Outcome.{TermOutcome, accept, refuse}
 use Rattle.terms.specs.Rules.{Agree}
 use Rattle.terms.specs.Valid.{Terms, Valid, holds, holds-valid, terms-same}
 use Rattle.messages.specs.Entered.{entered}
@@ -55,21 +55,21 @@ record Accepted (a b c : Bool) (x y i m : ℕ) (us vs : List ℕ) : Type 0 where
 
 never : {A : Type 0} (r k i m : ℕ) (ts vs : List ℕ) → refuse r k ts ≡ accept i m vs → A
 never r k i m ts vs e =
-    let q = ap (λ (o : Outcome). o .answer) e in
+    let q = ap (λ (o : TermOutcome). o .answer) e in
     let z : _≡_ {A = ℕ} 0 1 = cc in
     absurd (omega arith)
 
 accepted : (a b c : Bool) (x y k i m : ℕ) (us ts vs : List ℕ)
     → cond a (cond b (cond c (accept x y us) (refuse 20 k ts)) (refuse 6 k ts)) (refuse 10 k ts) ≡ accept i m vs → Accepted a b c x y i m us vs
 accepted true true true x y k i m us ts vs e =
-    let q = ap (λ (o : Outcome). o .answer) e in
+    let q = ap (λ (o : TermOutcome). o .answer) e in
     record {
       first = refl;
       second = refl;
       third = refl;
       number-is = (cc);
-      count-is = sym (ap (λ (o : Outcome). o .count) e);
-      table-is = sym (ap (λ (o : Outcome). o .table) e);
+      count-is = sym (ap (λ (o : TermOutcome). o .count) e);
+      table-is = sym (ap (λ (o : TermOutcome). o .table) e);
     }
 accepted true true false x y k i m us ts vs e = never 20 k i m ts vs e
 accepted true false c x y k i m us ts vs e = never 6 k i m ts vs e

@@ -20,7 +20,7 @@ use Rattle.terms.specs.Add.{addOf, addBy, Extends, AddedIs, adds}
 use Rattle.terms.specs.Meaning.{keyOf, messageOf, messageAt, message-at, messages-same, key-at}
 use Rattle.terms.specs.Message.{Message, key}
 use Rattle.terms.specs.Number.{messages-once}
-use Rattle.terms.specs.Outcome.{Answer, number, refused, Outcome, accept, refuse}
+use Rattle.terms.specs.Outcome.{Answer, number, refused, TermOutcome, accept, refuse}
 use Rattle.terms.specs.Rules.{isKey, spare, refusalOf, Fields, passed, fields}
 use Rattle.terms.specs.Rules as rules
 use Rattle.terms.specs.Table.{findOf}
@@ -111,13 +111,13 @@ by-fields n ts at (suc (suc (suc (suc (suc kind))))) x y e f = tt
 module _ {n : ℕ} {ts : List ℕ} {count : ℕ} (v : Valid n ts count) (kind x y : ℕ) (size : Sized (Term kind x y)) {i count′ : ℕ} {ts′ : List ℕ}
     (e : addOf n ts count (packed kind x y) ≡ accept i count′ ts′) where
   valid : Valid n ts′ count′
-  valid = subst (λ (o : Outcome). Valid n (o .table) (o .count)) e (adds v (packed kind x y) .valid)
+  valid = subst (λ (o : TermOutcome). Valid n (o .table) (o .count)) e (adds v (packed kind x y) .valid)
 
   is : (i < count′) × (getD ts′ i 0 ≡ packed kind x y) × Extends n ts count ts′ count′
-  is = subst (λ (o : Outcome). AddedIs n ts count (packed kind x y) (o .answer) (o .count) (o .table)) e (adds v (packed kind x y) .is)
+  is = subst (λ (o : TermOutcome). AddedIs n ts count (packed kind x y) (o .answer) (o .count) (o .table)) e (adds v (packed kind x y) .is)
 
   way : (refusalOf n ts count (packed kind x y) ≡ 0) × (count′ ≤ suc count) × (count < count′ → i ≡ count)
-  way = subst (λ (o : Outcome). Accepted n ts count (packed kind x y) (o .answer) (o .count)) e (accepted n ts count (packed kind x y))
+  way = subst (λ (o : TermOutcome). Accepted n ts count (packed kind x y) (o .answer) (o .count)) e (accepted n ts count (packed kind x y))
 
   older : (k : ℕ) → k < count → messageAt ts k ≡ messageAt ts′ k
   older = messages-same (v .terms) ts′ (is .2 .agree)

@@ -14,7 +14,7 @@ use Rattle.terms.specs.declared.table.Added.{Added}
 use Rattle.terms.specs.declared.table.Added.the-variants.{Old, New, Refused}
 use Rattle.terms.specs.declared.table.Found.{Found}
 use Rattle.terms.specs.declared.table.Found.the-variants.{At, Nothing}
-use Rattle.terms.specs.Outcome.{Answer, number, refused, Outcome, accept, refuse}
+use Rattle.terms.specs.Outcome.{Answer, number, refused, TermOutcome, accept, refuse}
 use Rattle.terms.specs.Rules.{refusalOf, refusal-same, Agree}
 use Rattle.terms.specs.Table.{findOf, found-at}
 use Rattle.terms.specs.Valid.{Terms, Valid, terms-same, terms-more}
@@ -22,18 +22,18 @@ use Rattle.terms.specs.Valid.{Terms, Valid, terms-same, terms-more}
 -- ---- definitions
 
 -- what the code's answer comes to: the term was there, is new, or was refused
-abbrev pub outcome : Added → (count : ℕ) → List ℕ → Outcome
+abbrev pub outcome : Added → (count : ℕ) → List ℕ → TermOutcome
 outcome (Old i) count ts = accept i count ts
 outcome (New i) count ts = accept i (suc count) ts
 outcome (Refused r) count ts = refuse r count ts
 
 -- by what the search found: "adding one that is present gives its number and changes nothing"; a new one goes behind the others
-abbrev pub addBy : (ts : List ℕ) (count w : ℕ) → Found → Outcome
+abbrev pub addBy : (ts : List ℕ) (count w : ℕ) → Found → TermOutcome
 addBy ts count w (At i) = accept i count ts
 addBy ts count w Nothing = cond (eqb count 512) (refuse 20 count ts) (accept count (suc count) (set ts count w))
 
 -- the refusals of the term rules come before 20
-unfoldable pub addOf : (n : ℕ) (ts : List ℕ) (count w : ℕ) → Outcome
+unfoldable pub addOf : (n : ℕ) (ts : List ℕ) (count w : ℕ) → TermOutcome
 addOf n ts count w =
     cond (eqb (refusalOf n ts count w) 0) (addBy ts count w (findOf ts count w)) (refuse (refusalOf n ts count w) count ts)
 
@@ -75,7 +75,7 @@ AddedIs n ts count w (number i) count′ ts′ = (i < count′) × (getD ts′ i
 AddedIs n ts count w (refused r) count′ ts′ = (count′ ≡ count) × (ts′ ≡ ts)
 
 -- the answer is the term's number, and the table still holds together
-pub record Adds (n : ℕ) (ts : List ℕ) (count w : ℕ) (o : Outcome) : Type 0 where
+pub record Adds (n : ℕ) (ts : List ℕ) (count w : ℕ) (o : TermOutcome) : Type 0 where
   pub is : AddedIs n ts count w (o .answer) (o .count) (o .table)
   pub valid : Valid n (o .table) (o .count)
 

@@ -9,7 +9,7 @@ use Rattle.terms.specs.declared.lent.Lookup.the-variants as lookup
 use Rattle.terms.specs.declared.table.Found.{Found}
 use Rattle.terms.specs.declared.table.Found.the-variants.{At, Nothing}
 use Rattle.terms.specs.Add.{addOf}
-use Rattle.terms.specs.Outcome.{Outcome, refuse}
+use Rattle.terms.specs.Outcome.{TermOutcome, refuse}
 use Rattle.terms.specs.Table.{findOf}
 use Rattle.terms.specs.Valid.{holds}
 
@@ -22,7 +22,7 @@ unfoldable pub lookupOf : (n : ℕ) (ts : List ℕ) (count w : ℕ) → Lookup
 lookupOf n ts count w = cond (holds n ts count) (lookupBy (findOf ts count w)) (lookup.Refused 10)
 
 -- adding the term w
-unfoldable pub addTermOf : (n : ℕ) (ts : List ℕ) (count w : ℕ) → Outcome
+unfoldable pub addTermOf : (n : ℕ) (ts : List ℕ) (count w : ℕ) → TermOutcome
 addTermOf n ts count w = cond (holds n ts count) (addOf n ts count w) (refuse 10 count ts)
 
 -- ---- by what the check says
@@ -40,6 +40,6 @@ module _ (n : ℕ) (ts : List ℕ) (count w : ℕ) where
   unfolding addTermOf
   add-term-bad e = rw e
 
-  pub add-term-by : holds n ts count ≡ true → {o : Outcome} → o ≡ addOf n ts count w → o ≡ addTermOf n ts count w
+  pub add-term-by : holds n ts count ≡ true → {o : TermOutcome} → o ≡ addOf n ts count w → o ≡ addTermOf n ts count w
   unfolding addTermOf
   add-term-by e p = rw e p

@@ -9,14 +9,14 @@ pub data Answer : Type 0 where
   number : ℕ → Answer
   refused : ℕ → Answer
 
-pub record Outcome : Type 0 where
+pub record TermOutcome : Type 0 where
   pub answer : Answer
   pub count : ℕ
   pub table : List ℕ
 
-abbrev pub accept : (i count : ℕ) → List ℕ → Outcome
+abbrev pub accept : (i count : ℕ) → List ℕ → TermOutcome
 accept i count ts = record { answer = number i; count = count; table = ts }
 
 -- "State, wire, cache and terms stay unchanged."
-abbrev pub refuse : (r count : ℕ) → List ℕ → Outcome
+abbrev pub refuse : (r count : ℕ) → List ℕ → TermOutcome
 refuse r count ts = record { answer = refused r; count = count; table = ts }

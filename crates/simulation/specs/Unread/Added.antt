@@ -21,7 +21,7 @@ use Rattle.terms.specs.Valid.{Valid}
 use Rattle.simulation.specs.Unread.Reads.{words-same}
 
 -- the same answer and count, and the same terms below it
-pub record AddsSame (o o′ : terms.Outcome) : Type 0 where
+pub record AddsSame (o o′ : terms.TermOutcome) : Type 0 where
   pub answer : o .answer ≡ o′ .answer
   pub count : o .count ≡ o′ .count
   pub terms : termsOf (o .table) (o .count) ≡ termsOf (o′ .table) (o′ .count)
