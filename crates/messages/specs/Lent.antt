@@ -25,9 +25,9 @@ use Rattle.messages.specs.Plan.{known, drafted, Fresh, Ready, NodePlanne
 -- ---- definitions
 
 -- what the code's answer comes to
-abbrev pub outcome : Stored → (count : ℕ) → List ℕ → TermOutcome
-outcome (At i count′) count ts = accept i count′ ts
-outcome (Refused r) count ts = refuse r count ts
+abbrev pub storeOutcome : Stored → (count : ℕ) → List ℕ → TermOutcome
+storeOutcome (At i count′) count ts = accept i count′ ts
+storeOutcome (Refused r) count ts = refuse r count ts
 
 -- a list of terms, with the places of ts past it
 abbrev pub over : List ℕ → List ℕ → List ℕ

@@ -12,7 +12,7 @@ use terms::rules::REFUSE_RANGE;
 use terms::rules::REFUSE_TABLES;
 use terms::table::MAX_TERMS;
 ghost use mathlib.Core.Path.{_≡_};
-ghost use Rattle.messages.specs.Lent.{outcome, addMessageOf};
+ghost use Rattle.messages.specs.Lent.{storeOutcome, addMessageOf};
 
 pub enum Stored {
     // The message's number, and how many terms the table now has.
@@ -28,7 +28,7 @@ pub fn add_message(
     draft: [Node; 16],
     root: usize,
 ) -> Stored
-    ensures { λ r. ⌜ outcome r count (now (terms .exit)) ≡ addMessageOf n (now (terms .entry)) count draft root ⌝ }
+    ensures { λ r. ⌜ storeOutcome r count (now (terms .exit)) ≡ addMessageOf n (now (terms .entry)) count draft root ⌝ }
 {
     if !holds_together(terms, count, n) {
         return Stored::Refused(REFUSE_TABLES);

@@ -22,10 +22,10 @@ use Rattle.terms.specs.Valid.{Terms, Valid, terms-same, terms-more}
 -- ---- definitions
 
 -- what the code's answer comes to: the term was there, is new, or was refused
-abbrev pub outcome : Added → (count : ℕ) → List ℕ → TermOutcome
-outcome (Old i) count ts = accept i count ts
-outcome (New i) count ts = accept i (suc count) ts
-outcome (Refused r) count ts = refuse r count ts
+abbrev pub addOutcome : Added → (count : ℕ) → List ℕ → TermOutcome
+addOutcome (Old i) count ts = accept i count ts
+addOutcome (New i) count ts = accept i (suc count) ts
+addOutcome (Refused r) count ts = refuse r count ts
 
 -- by what the search found: "adding one that is present gives its number and changes nothing"; a new one goes behind the others
 abbrev pub addBy : (ts : List ℕ) (count w : ℕ) → Found → TermOutcome
@@ -109,7 +109,7 @@ module _ {n : ℕ} {ts : List ℕ} {count : ℕ} (v : Valid n ts count) (w : ℕ
 -- ---- by the way out
 
 module _ (n : ℕ) (ts : List ℕ) (count w : ℕ) where
-  pub add-refused : (r : ℕ) → r ≡ refusalOf n ts count w → (r ≡ 0 → ⊥) → outcome (Refused r) count ts ≡ addOf n ts count w
+  pub add-refused : (r : ℕ) → r ≡ refusalOf n ts count w → (r ≡ 0 → ⊥) → addOutcome (Refused r) count ts ≡ addOf n ts count w
   unfolding addOf
   add-refused r e ne = simp (ne-eqb (refusalOf n ts count w) 0 (λ z. ne (e ∙ z))) (ap (λ (x : ℕ). refuse x count ts) e)
 
@@ -118,11 +118,11 @@ module _ (n : ℕ) (ts : List ℕ) (count w : ℕ) where
     unfolding addOf
     by e = rw (eq-eqb (refusalOf n ts count w) 0 passed) (ap (addBy ts count w) (sym e))
 
-    pub add-old : {i : ℕ} → findOf ts count w ≡ At i → outcome (Old i) count ts ≡ addOf n ts count w
+    pub add-old : {i : ℕ} → findOf ts count w ≡ At i → addOutcome (Old i) count ts ≡ addOf n ts count w
     add-old e = by e
 
-    pub add-full : findOf ts count w ≡ Nothing → count ≡ 512 → outcome (Refused 20) count ts ≡ addOf n ts count w
+    pub add-full : findOf ts count w ≡ Nothing → count ≡ 512 → addOutcome (Refused 20) count ts ≡ addOf n ts count w
     add-full e h = rw (eq-eqb count 512 h) at (by e)
 
-    pub add-new : findOf ts count w ≡ Nothing → (count ≡ 512 → ⊥) → outcome (New count) count (set ts count w) ≡ addOf n ts count w
+    pub add-new : findOf ts count w ≡ Nothing → (count ≡ 512 → ⊥) → addOutcome (New count) count (set ts count w) ≡ addOf n ts count w
     add-new e h = rw (ne-eqb count 512 h) at (by e)

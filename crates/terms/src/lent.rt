@@ -10,7 +10,7 @@ use super::table::find;
 ghost use mathlib.Core.Path.{_≡_};
 ghost use Prim.Native.Nat.{_<_};
 ghost use lib.ListN.{length};
-ghost use Rattle.terms.specs.Add.{outcome};
+ghost use Rattle.terms.specs.Add.{addOutcome};
 ghost use Rattle.terms.specs.Lent.{lookupOf, addTermOf};
 ghost use Rattle.terms.specs.Valid.{stands, holds};
 
@@ -71,7 +71,7 @@ pub fn find_term(terms: &[u64], count: usize, n: u16, word: u64) -> Lookup
 
 // Adds a term, as a TM record does.
 pub fn add_term(terms: &mut [u64], count: usize, n: u16, word: u64) -> Added
-    ensures { λ r. ⌜ outcome r count (now (terms .exit)) ≡ addTermOf n (now (terms .entry)) count word ⌝ }
+    ensures { λ r. ⌜ addOutcome r count (now (terms .exit)) ≡ addTermOf n (now (terms .entry)) count word ⌝ }
 {
     if !holds_together(terms, count, n) {
         return Added::Refused(REFUSE_TABLES);

@@ -5,7 +5,7 @@ use super::rules::refusal;
 ghost use mathlib.Core.Path.{_≡_};
 ghost use Prim.Native.Nat.{_≤_};
 ghost use lib.ListN.{length};
-ghost use Rattle.terms.specs.Add.{outcome, addOf};
+ghost use Rattle.terms.specs.Add.{addOutcome, addOf};
 ghost use Rattle.terms.specs.Table.{findOf};
 ghost use Rattle.terms.specs.Valid.{Valid};
 
@@ -43,7 +43,7 @@ pub enum Added {
 // Adds a term under the rules.
 pub fn add(terms: &mut [u64], count: usize, n: u16, word: u64) -> Added
     requires { ⌜ Valid n (now terms) count ⌝ }
-    ensures { λ r. ⌜ outcome r count (now (terms .exit)) ≡ addOf n (now (terms .entry)) count word ⌝ }
+    ensures { λ r. ⌜ addOutcome r count (now (terms .exit)) ≡ addOf n (now (terms .entry)) count word ⌝ }
 {
     let number = refusal(terms, n, count, word);
     if number != 0 {
