@@ -7,7 +7,7 @@ use mathlib.Core.Path.{_≡_, refl, sym, ap, subst}
 use mathlib.Core.Bool.{true, false}
 use mathlib.Core.List.{List}
 use Rattle.words.specs.Word.{packed}
-use Rattle.terms.specs.Add.{addOf, Adds, adds}
+use Rattle.terms.specs.Add.{addOf, AddsTerm, adds}
 use Rattle.terms.specs.Valid.{Valid}
 use Rattle.terms.specs.Outcome as terms
 use Rattle.exchange.specs.declared.call.Call.{Call}
@@ -53,7 +53,7 @@ module _ (t : Tables) (c : Call) where
 module _ {n : ℕ} {ts : List ℕ} {count : ℕ} (v : Valid n ts count) (w : ℕ) where
   pub number-below : {i count′ : ℕ} {ts′ : List ℕ} → terms.accept i count′ ts′ ≡ addOf n ts count w → i < 512
   number-below {i} {count′} {ts′} e =
-      let a : Adds n ts count w (terms.accept i count′ ts′) = subst (Adds n ts count w) (sym e) (adds v w) in
+      let a : AddsTerm n ts count w (terms.accept i count′ ts′) = subst (AddsTerm n ts count w) (sym e) (adds v w) in
       omega (arith, a .is .0, a .valid .room)
 
 -- what came of adding a term to tables

@@ -8,7 +8,7 @@ use mathlib.Core.Bool.{true, false}
 use mathlib.Core.List.{List, [], _∷_, map}
 use native.Mathlib.Omega.{arith}
 use Rattle.words.specs.Word.{packed}
-use Rattle.terms.specs.Add.{addOf, Adds, adds}
+use Rattle.terms.specs.Add.{addOf, AddsTerm, adds}
 use Rattle.terms.specs.Choice.{no-true}
 use Rattle.terms.specs.Outcome as terms
 use Rattle.terms.specs.Message.{Message}
@@ -105,7 +105,7 @@ module _ {R : Realm} {t : Tables} {ρ : Reading Event} (f : Follows R t ρ) (kin
   by-adding (terms.number i) count ts e =
       record { header-is = f .header-is; agrees = adding-agrees (f .together) kind l r size e (f .header-is) ρ (f .agrees) }
   by-adding (terms.refused k) count ts e =
-      let same = subst (Adds (t .realm .n) (t .terms) (t .realm .terms) (packed kind l r)) e (adds (f .together .terms-hold) (packed kind l r)) .is in
+      let same = subst (AddsTerm (t .realm .n) (t .terms) (t .realm .terms) (packed kind l r)) e (adds (f .together .terms-hold) (packed kind l r)) .is in
       rw (same .0, same .1) (kept (calls.Term kind l r) f)
 
   adding-takes : (a : terms.Answer) (count : ℕ) (ts : List ℕ)

@@ -5,7 +5,7 @@ use mathlib.Core.Path.{_≡_, refl, subst}
 use mathlib.Core.List.{List}
 use lib.ListN.{length}
 use Rattle.words.specs.Word.{packed}
-use Rattle.terms.specs.Add.{addOf, Adds, adds}
+use Rattle.terms.specs.Add.{addOf, AddsTerm, adds}
 use Rattle.terms.specs.Number.{termsOf}
 use Rattle.terms.specs.Outcome as terms
 use Rattle.messages.specs.Lent.{over}
@@ -44,7 +44,7 @@ module _ {t : Tables} (w : Together t) where
       → Together (withTerm t (adding (t .realm) (record { answer = a; count = count; table = ts })) .tables)
   by-adding kind l r size (terms.number i) count ts e = adding-together w kind l r size e
   by-adding kind l r size (terms.refused k) count ts e =
-      let same = subst (Adds (t .realm .n) (t .terms) (t .realm .terms) (packed kind l r)) e (adds (w .terms-hold) (packed kind l r)) .is in
+      let same = subst (AddsTerm (t .realm .n) (t .terms) (t .realm .terms) (packed kind l r)) e (adds (w .terms-hold) (packed kind l r)) .is in
       rw (same .0, same .1) w
 
 pub call-kept : (t : Tables) (c : Call) → Sized c → Together t → Together (called t c .tables)

@@ -75,21 +75,21 @@ AddedIs n ts count w (number i) count′ ts′ = (i < count′) × (getD ts′ i
 AddedIs n ts count w (refused r) count′ ts′ = (count′ ≡ count) × (ts′ ≡ ts)
 
 -- the answer is the term's number, and the table still holds together
-pub record Adds (n : ℕ) (ts : List ℕ) (count w : ℕ) (o : TermOutcome) : Type 0 where
+pub record AddsTerm (n : ℕ) (ts : List ℕ) (count w : ℕ) (o : TermOutcome) : Type 0 where
   pub is : AddedIs n ts count w (o .answer) (o .count) (o .table)
   pub valid : Valid n (o .table) (o .count)
 
 module _ {n : ℕ} {ts : List ℕ} {count : ℕ} (v : Valid n ts count) (w : ℕ) where
-  kept : (r : ℕ) → Adds n ts count w (refuse r count ts)
+  kept : (r : ℕ) → AddsTerm n ts count w (refuse r count ts)
   kept r = record { is = (refl, refl); valid = v }
 
-  by-found : refusalOf n ts count w ≡ 0 → (f : Found) → findOf ts count w ≡ f → Adds n ts count w (addBy ts count w f)
+  by-found : refusalOf n ts count w ≡ 0 → (f : Found) → findOf ts count w ≡ f → AddsTerm n ts count w (addBy ts count w f)
   by-found r (At i) e =
       let p = found-at ts count w e in
       record { is = (p .0, p .1, extends-refl (v .terms)); valid = v }
   by-found r Nothing e = by-room (eqb count 512) refl
     where
-      by-room : (b : Bool) → eqb count 512 ≡ b → Adds n ts count w (cond b (refuse 20 count ts) (accept count (suc count) (set ts count w)))
+      by-room : (b : Bool) → eqb count 512 ≡ b → AddsTerm n ts count w (cond b (refuse 20 count ts) (accept count (suc count) (set ts count w)))
       by-room true q = kept 20
       by-room false q =
           let room : count < 512 = omega (arith, v .room, eqb-false count 512 q) in
@@ -97,12 +97,12 @@ module _ {n : ℕ} {ts : List ℕ} {count : ℕ} (v : Valid n ts count) (w : ℕ
           let x = extends-by (v .terms) (set ts count w) w (λ k h. sym (getD-set-other ts count k w 0 (λ z. omega arith))) here r e in
           record { is = (omega arith, here, x); valid = record { size = length-set ts count w ∙ v .size; room = room; terms = x .terms } }
 
-  pub adds : Adds n ts count w (addOf n ts count w)
+  pub adds : AddsTerm n ts count w (addOf n ts count w)
   unfolding addOf
   adds = by-rule (eqb (refusalOf n ts count w) 0) refl
     where
       by-rule : (b : Bool) → eqb (refusalOf n ts count w) 0 ≡ b
-          → Adds n ts count w (cond b (addBy ts count w (findOf ts count w)) (refuse (refusalOf n ts count w) count ts))
+          → AddsTerm n ts count w (cond b (addBy ts count w (findOf ts count w)) (refuse (refusalOf n ts count w) count ts))
       by-rule true q = by-found (eqb-true (refusalOf n ts count w) 0 q) (findOf ts count w) refl
       by-rule false q = kept (refusalOf n ts count w)
 

@@ -6,7 +6,7 @@ use mathlib.Core.Path.{_≡_}
 use mathlib.Core.Bool.{true}
 use mathlib.Core.List.{List}
 use Prim.Native.Nat.{ℕ, _<_}
-use Rattle.terms.specs.Add.{addOf, Adds, adds}
+use Rattle.terms.specs.Add.{addOf, AddsTerm, adds}
 use Rattle.terms.specs.Meaning.{messageOf, messageAt, message-at, messages-same}
 use Rattle.terms.specs.Number.{messages-once}
 use Rattle.terms.specs.Rules.{termAt, Agree}
@@ -20,7 +20,7 @@ pub check-complete : {n : ℕ} {ts : List ℕ} {count : ℕ} → Valid n ts coun
 check-complete v = valid-holds v
 
 -- Adding a term keeps that, and an accepted answer is the number at which the term stands; older terms stay.
-pub add-exact : {n : ℕ} {ts : List ℕ} {count : ℕ} → Valid n ts count → (w : ℕ) → Adds n ts count w (addOf n ts count w)
+pub add-exact : {n : ℕ} {ts : List ℕ} {count : ℕ} → Valid n ts count → (w : ℕ) → AddsTerm n ts count w (addOf n ts count w)
 add-exact v w = adds v w
 
 -- A term's message is made of its operands' messages,
