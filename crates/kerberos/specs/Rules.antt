@@ -34,8 +34,8 @@ abbrev pub RunFits : Log → Type 0
 RunFits l = next l < 64
 
 -- "16 entries with a count"
-abbrev pub EntryFits : Realm → Log → Type 0
-EntryFits R l = length (cache R l) < 16
+abbrev pub CacheFits : Realm → Log → Type 0
+CacheFits R l = length (cache R l) < 16
 
 pub data Takes (f : Form) (R : Realm) (terms : List Message) (l : Log) : Call → Act → Type 0 where
   -- TM: "adding a term", the one that kind, L and R make in this table
@@ -80,7 +80,7 @@ pub data Takes (f : Form) (R : Realm) (terms : List Message) (l : Log) : Call �
       → TicketLives R l ts
       → AuthenticatorLives R l ta
       → ¬ (entry b k ta ∈ cache R l)
-      → EntryFits R l
+      → CacheFits R l
       → TermsFit (confirmation ta k ∷ []) terms
       → Takes f R terms l (Step 5 r 0 0 m 0) (Accept r a b k ts ta, confirmation ta k ∷ [])
   -- "6 | run, m | m is {Ta}K with the run's own values; the run is done"
