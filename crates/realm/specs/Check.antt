@@ -21,7 +21,7 @@ use Rattle.realm.specs.Header.{fits-header, header-fits}
 use Rattle.realm.specs.Tables.{Tables, EntryFits, empty, Together}
 
 -- "Times are 32 bits without sign"
-pub record Narrow (h : Realm) : Type 0 where
+pub record TimesFit (h : Realm) : Type 0 where
   pub ls : h .ls < 2 ^ 32
   pub la : h .la < 2 ^ 32
   pub clock : h .clock < 2 ^ 32
@@ -94,7 +94,7 @@ module _ (ws : List ℕ) (count : ℕ) where
   wire-is e = let p = and-eq-true-iff (eqb (length ws) 8) (within ws count) .0 e in (eqb-true (length ws) 8 (p .0), within-is ws count (p .1))
 
 -- the test says that the tables hold together, where the fields have their widths
-pub together-is : (t : Tables) → Narrow (t .realm) → WordsFit (t .wire) → length (t .cache) ≡ 16 → together t ≡ true → Together t
+pub together-is : (t : Tables) → TimesFit (t .realm) → WordsFit (t .wire) → length (t .cache) ≡ 16 → together t ≡ true → Together t
 unfolding together
 together-is t z w places e =
     let h = t .realm in

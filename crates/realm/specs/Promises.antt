@@ -11,7 +11,7 @@ use Rattle.realm.specs.declared.header.Opening.the-variants.{Open}
 use Rattle.realm.specs.declared.header.Realm.{Realm}
 use Rattle.realm.specs.declared.input.Step.{Step}
 use Rattle.realm.specs.Check as checks
-use Rattle.realm.specs.Check.{Narrow, WordsFit, together}
+use Rattle.realm.specs.Check.{TimesFit, WordsFit, together}
 use Rattle.realm.specs.Header.{values, fits-header, header-fits}
 use Rattle.realm.specs.Input.{inputRefusal, Passed, passed, passed-back}
 use Rattle.realm.specs.New as new
@@ -28,7 +28,7 @@ pub input-exact : (h : Realm) (s : Step) → (inputRefusal h s ≡ 0) ↔ Passed
 input-exact h s = (passed h s, passed-back h s)
 
 -- The check of tables says exactly that they hold together, where their words and fields have their widths.
-pub check-exact : (t : Tables) → Narrow (t .realm) → WordsFit (t .wire) → length (t .cache) ≡ 16 → (together t ≡ true) ↔ Together t
+pub check-exact : (t : Tables) → TimesFit (t .realm) → WordsFit (t .wire) → length (t .cache) ≡ 16 → (together t ≡ true) ↔ Together t
 check-exact t z w places = (checks.together-is t z w places, checks.is-together t)
 
 -- The tables that a caller lends for a realm that `open_realm` gave hold together, whatever stands in their places.

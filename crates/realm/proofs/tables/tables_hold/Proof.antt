@@ -1,6 +1,6 @@
 -- `realm::tables::tables_hold` meets its contract: the answers of the five tests, and what they say together. Assumes nothing.
 use Rattle.realm.specs.Tables.{tables}
-use Rattle.realm.specs.Check.{Narrow, together, together-is}
+use Rattle.realm.specs.Check.{TimesFit, together, together-is}
 use lib.ListN.{length}
 use mathlib.Core.Path.{_≡_, sym, _∙_}
 use mathlib.Core.Bool.{_&&_}
@@ -8,7 +8,7 @@ use borrow.Author.Needs.{needs}
 use Rattle.realm.proofs.tables.tables_hold.Statement.{statement}
 use Rattle.realm.proofs.tables.tables_hold.Tie as tie
 
-narrow : (c : tie.After-entries-hold) → Narrow (c .before .before .before .before .before .before .before .before .args .h)
+narrow : (c : tie.After-entries-hold) → TimesFit (c .before .before .before .before .before .before .before .before .args .h)
 narrow c = record { ls = search needs; la = search needs; clock = search needs }
 
 sixteen : (c : tie.After-entries-hold) → length (c .before .before .before .before .before .before .before .before .args .cache) ≡ 16
