@@ -121,7 +121,7 @@ module _ {t : Tables} (w : Together t) (x : Effect) (f : EffectFits t x) {count 
 -- ---- a call that is refused
 
 -- "State, wire, cache and terms stay unchanged."
-pub refused-agrees : {R : Realm} {t : engines.Tables HD} (ρ : Reading Event) → Agrees HD R t ρ → Agrees HD R t (record { log = (Nothing, []) ∷ ρ .log; terms = ρ .terms })
+pub refused-agrees : {R : Realm} {t : engines.Values HD} (ρ : Reading Event) → Agrees HD R t ρ → Agrees HD R t (record { log = (Nothing, []) ∷ ρ .log; terms = ρ .terms })
 refused-agrees {t = t} ρ a =
     record {
       clock-is = a .clock-is;

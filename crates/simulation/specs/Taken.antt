@@ -39,7 +39,7 @@ use Rattle.simulation.specs.Terms.{withTerms, term-together, term-takes,
 use Rattle.simulation.specs.Values.{valuesOf}
 
 -- A call that is refused leaves the tables in agreement: "State, wire, cache and terms stay unchanged."
-pub refused-agrees : {R : Realm} {t : engines.Tables HD} (ρ : Reading Event) (c : Call) → Agrees HD R t ρ → Agrees HD R t (read HD false c ρ)
+pub refused-agrees : {R : Realm} {t : engines.Values HD} (ρ : Reading Event) (c : Call) → Agrees HD R t ρ → Agrees HD R t (read HD false c ρ)
 refused-agrees ρ c a = follows.refused-agrees ρ a
 
 -- Tables that hold together, a step that is taken, and what came of sending its messages:

@@ -15,7 +15,7 @@ use Rattle.realm.specs.Tables.{Tables}
 abbrev pub logged : replay.Entry → Entry
 logged x = entry (x .b) (x .k) (x .ta)
 
-abbrev pub valuesOf : Tables → engines.Tables HD
+abbrev pub valuesOf : Tables → engines.Values HD
 valuesOf t =
     record {
       now = t .realm .clock;
