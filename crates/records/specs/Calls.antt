@@ -111,7 +111,7 @@ calls-as bytes f e = calls-are bytes ∙ ap (λ (o : Front). onward o (λ width.
 -- ---- a record at a place of the file
 
 -- c was read at a place, and the next record is at another
-pub record Taken (bytes : List ℕ) (at : ℕ) (c : Call) (next : ℕ) : Type 0 where
+pub record CallAt (bytes : List ℕ) (at : ℕ) (c : Call) (next : ℕ) : Type 0 where
   pub later : at + termBytes ≤ next
   pub inside : next ≤ length bytes
   pub first : callsOf (drop at bytes) ≡ then c (callsOf (drop next bytes))
@@ -123,7 +123,7 @@ pub record Broken (bytes : List ℕ) (at : ℕ) (number : ℕ) : Type 0 where
   pub last : callsOf (drop at bytes) ≡ record { calls = []; ending = broken }
 
 module _ (bytes : List ℕ) (at : ℕ) where
-  by-call : (c : Call) (next : ℕ) (f : Front) → frontOf (drop at bytes) ≡ f → told at f ≡ answer.Call c next → Taken bytes at c next
+  by-call : (c : Call) (next : ℕ) (f : Front) → frontOf (drop at bytes) ≡ f → told at f ≡ answer.Call c next → CallAt bytes at c next
   by-call c next (whole d width) e t =
       let same : d ≡ c = cc in
       let place : at + width ≡ next = cc in
@@ -137,7 +137,7 @@ module _ (bytes : List ℕ) (at : ℕ) where
   by-call c next none e t = let z : _≡_ {A = ℕ} 0 1 = cc in absurd (omega arith)
   by-call c next unreadable e t = let z : _≡_ {A = ℕ} 0 1 = cc in absurd (omega arith)
 
-  pub record-call : (c : Call) (next : ℕ) → recordAt bytes at ≡ answer.Call c next → Taken bytes at c next
+  pub record-call : (c : Call) (next : ℕ) → recordAt bytes at ≡ answer.Call c next → CallAt bytes at c next
   unfolding recordAt
   record-call c next e = by-call c next (frontOf (drop at bytes)) refl e
 

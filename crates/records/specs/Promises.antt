@@ -16,7 +16,7 @@ use Rattle.records.specs.Headers.{headerOf, Headed, header-fields, heade
 use Rattle.records.specs.Headers as headers
 use Rattle.records.specs.Records.{frontOf, recordAt, front-finds}
 use Rattle.records.specs.Records as records
-use Rattle.records.specs.Calls.{ended, callsOf, onward, Taken, Broken, calls-are, record-call, record-refused, end-decided, calls-bounded}
+use Rattle.records.specs.Calls.{ended, callsOf, onward, CallAt, Broken, calls-are, record-call, record-refused, end-decided, calls-bounded}
 use Rattle.records.specs.Calls as calls
 
 module _ (bytes : List ℕ) where
@@ -48,7 +48,7 @@ module _ (bytes : List ℕ) where
 
 module _ (bytes : List ℕ) (at : ℕ) where
   -- A call read at a place is the first of those from there on, and the others are those from `next` on,
-  pub step-on : (c : Call) (next : ℕ) → recordAt bytes at ≡ answer.Call c next → Taken bytes at c next
+  pub step-on : (c : Call) (next : ℕ) → recordAt bytes at ≡ answer.Call c next → CallAt bytes at c next
   step-on c next e = record-call bytes at c next e
 
   -- reading ends at the end of the file and nowhere before, and there are no calls from there on,
