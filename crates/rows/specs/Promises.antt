@@ -20,7 +20,7 @@ pub use Rattle.rows.specs.Rows.{rows-length, rows-at, rows-same}
 -- ---- writing
 
 -- x was written as row r of the table runs, which is now runs′
-pub record Writes (runs : List ℕ) (r : ℕ) (x : Row) (runs′ : List ℕ) : Type 0 where
+pub record RowWritten (runs : List ℕ) (r : ℕ) (x : Row) (runs′ : List ℕ) : Type 0 where
   pub size : Full runs′
   -- row r is x, and the others are as they were
   pub here : runAt runs′ r ≡ x
@@ -32,7 +32,7 @@ pub record Writes (runs : List ℕ) (r : ℕ) (x : Row) (runs′ : List ℕ) : T
   -- words past the row keep their values
   pub past : (count : ℕ) → r < count → pastRows runs′ count ≡ pastRows runs count
 
-pub writes : (runs : List ℕ) → Full runs → (r : ℕ) → r < 64 → (x : Row) → Fits x → Writes runs r x (setRun runs r x)
+pub writes : (runs : List ℕ) → Full runs → (r : ℕ) → r < 64 → (x : Row) → Fits x → RowWritten runs r x (setRun runs r x)
 writes runs size r l x f =
     record {
       size = set-full runs size r l x;
