@@ -41,8 +41,8 @@ use Rattle.simulation.specs.Wire.{wire-follows}
 -- ---- definitions
 
 -- the tables after an effect, where sending came to these terms and this wire
-abbrev pub next : Tables → Effect → (count : ℕ) (ts ws : List ℕ) → Tables
-next t x count ts ws = appliedWith t x count ts ws .tables
+abbrev pub nextTables : Tables → Effect → (count : ℕ) (ts ws : List ℕ) → Tables
+nextTables t x count ts ws = appliedWith t x count ts ws .tables
 
 -- there may be more terms than before, and the wire fits them
 pub record Grows (t : Tables) (count : ℕ) (ts ws : List ℕ) : Type 0 where
@@ -62,7 +62,7 @@ module _ {t : Tables} (w : Together t) {count : ℕ} {ts ws : List ℕ} (g : Gro
   small = omega (arith, w .header-fits .most)
 
   module _ (x : Effect) (f : EntryReady t (x .keeping)) (h : ChangeHolds (t .realm .n) ts count (t .realm .runs) (x .change)) where
-    pub next-together : x .clock < 2 ^ 32 → Together (next t x count ts ws)
+    pub next-together : x .clock < 2 ^ 32 → Together (nextTables t x count ts ws)
     next-together clock =
         let c = entries-kept w (x .keeping) f in
         record {
@@ -80,7 +80,7 @@ module _ {t : Tables} (w : Together t) {count : ℕ} {ts ws : List ℕ} (g : Gro
     pub next-agrees : {R : Realm} → header (t .realm) ≡ R → (ρ : Reading Event) → Agrees HD R (valuesOf t) ρ → (e : Event) → Mirrors (t .realm .clock) e x
         → {terms : List Message} → meanings ts count ≡ terms
         → ((m : Message) → Known ts count ws m ↔ (Known (t .terms) (t .realm .terms) (t .wire) m ⊎ List·Memᴰ m (messagesOf (x .sends))))
-        → Agrees HD R (valuesOf (next t x count ts ws)) (record { log = (e, messagesOf (x .sends)) ∷ ρ .log; terms = terms })
+        → Agrees HD R (valuesOf (nextTables t x count ts ws)) (record { log = (e, messagesOf (x .sends)) ∷ ρ .log; terms = terms })
     next-agrees {R} is ρ a e mirrors same grown =
         let now : Mirrors (clock (ρ .log)) e x = subst (λ (k : ℕ). Mirrors k e x) (a .clock-is) mirrors in
         record {
@@ -106,11 +106,11 @@ module _ {t : Tables} (w : Together t) (x : Effect) (f : EffectFits t x) {count 
   row-holds : ChangeHolds (t .realm .n) ts count (t .realm .runs) (x .change)
   row-holds = change-holds t sent-is (x .change) (f .row)
 
-  pub effect-together : x .clock < 2 ^ 32 → Together (next t x count ts ws)
+  pub effect-together : x .clock < 2 ^ 32 → Together (nextTables t x count ts ws)
   effect-together clock = next-together w sent-grows x (f .entry) row-holds clock
 
   pub effect-agrees : {R : Realm} → header (t .realm) ≡ R → (ρ : Reading Event) → Agrees HD R (valuesOf t) ρ → (e : Event) → Mirrors (t .realm .clock) e x
-      → Agrees HD R (valuesOf (next t x count ts ws)) (record { log = (e, messagesOf (x .sends)) ∷ ρ .log; terms = addAll (messagesOf (x .sends)) (ρ .terms) })
+      → Agrees HD R (valuesOf (nextTables t x count ts ws)) (record { log = (e, messagesOf (x .sends)) ∷ ρ .log; terms = addAll (messagesOf (x .sends)) (ρ .terms) })
   effect-agrees is ρ a e mirrors =
       next-agrees w sent-grows x (f .entry) row-holds is ρ a e mirrors (sent-is .added ∙ ap (addAll (messagesOf (x .sends))) (a .terms-are)) (sent-is .wire)
 

@@ -32,7 +32,7 @@ use Rattle.decisions.specs.Effects.{messagesOf}
 use Rattle.decisions.specs.Laws.Fits.{took-clock}
 use Rattle.decisions.specs.Promises.{taken-as, taken-fits}
 use Rattle.simulation.specs.Follows as follows
-use Rattle.simulation.specs.Follows.{next, effect-together, effect-agrees, effect-fits}
+use Rattle.simulation.specs.Follows.{nextTables, effect-together, effect-agrees, effect-fits}
 use Rattle.simulation.specs.Mirrors.{took-mirrors}
 use Rattle.simulation.specs.Rules.{taken}
 use Rattle.simulation.specs.Terms.{withTerms, term-together, term-takes, term-agrees}
@@ -46,7 +46,7 @@ refused-agrees ρ c a = follows.refused-agrees ρ a
 module _ {t : Tables} (w : Together t) (s : Step) {x : Effect} (d : decided t s ≡ Takes x) {count : ℕ} {ts ws : List ℕ}
     (o : sendOf (t .terms) (t .wire) (t .realm .terms) (messagesOf (x .sends)) ≡ sent count ts ws) where
   -- the tables hold together again,
-  pub step-together : Sized (callOf s) → Together (next t x count ts ws)
+  pub step-together : Sized (callOf s) → Together (nextTables t x count ts ws)
   step-together size = effect-together w x (taken-fits t s w d) o (took-clock t w (taken-as t s w d .took) size)
 
   -- what the step did, and the messages that it sent
@@ -63,7 +63,7 @@ module _ {t : Tables} (w : Together t) (s : Step) {x : Effect} (d : decided t s 
         (effect-fits w x (taken-fits t s w d) o ρ (a .terms-are)))
 
     -- and the tables agree with the reading that has it in front.
-    pub step-agrees : Agrees HD R (valuesOf (next t x count ts ws)) (record { log = step-act ∷ ρ .log; terms = addAll (step-act .1) (ρ .terms) })
+    pub step-agrees : Agrees HD R (valuesOf (nextTables t x count ts ws)) (record { log = step-act ∷ ρ .log; terms = addAll (step-act .1) (ρ .terms) })
     unfolding step-act
     step-agrees = effect-agrees w x (taken-fits t s w d) o is ρ a (taken-as t s w d .event) (took-mirrors (taken-as t s w d .took))
 

@@ -43,7 +43,7 @@ use Rattle.realm.specs.Tables.{Tables, Together}
 use Rattle.simulation.specs.Values.{valuesOf}
 use Rattle.decisions.specs.Effects.{nothing}
 use Rattle.simulation.specs.Mirrors.{nothing-mirrors}
-use Rattle.simulation.specs.Follows.{next, Grows, next-together, next-agrees}
+use Rattle.simulation.specs.Follows.{nextTables, Grows, next-together, next-agrees}
 
 -- ---- the word
 
@@ -172,7 +172,7 @@ module _ {n : ℕ} {ts : List ℕ} {count : ℕ} (v : Valid n ts count) (kind x 
 
 -- the tables with more terms; all else stays
 abbrev pub withTerms : Tables → (count : ℕ) (ts : List ℕ) → Tables
-withTerms t count ts = next t (nothing (t .realm .clock)) count ts (t .wire)
+withTerms t count ts = nextTables t (nothing (t .realm .clock)) count ts (t .wire)
 
 module _ {t : Tables} (w : Together t) (kind x y : ℕ) (size : Sized (Term kind x y)) {i count : ℕ} {ts : List ℕ}
     (e : addOf (t .realm .n) (t .terms) (t .realm .terms) (packed kind x y) ≡ accept i count ts) where
