@@ -19,16 +19,16 @@ use Rattle.deciding.specs.Layout.{rootsOf, draftOf}
 
 module _ (stored : ℕ → Message) where
   -- the messages at the roots of a draft, one where a node is named twice
-  abbrev pub told : List Node → Roots → List Message
-  told draft (At first last) =
+  abbrev pub rootMessages : List Node → Roots → List Message
+  rootMessages draft (At first last) =
       let m = draftMessage stored draft in
       cond (eqb first last) (m first ∷ []) (m first ∷ m last ∷ [])
-  told draft Nothing = []
+  rootMessages draft Nothing = []
 
   one : {x y : Message} → x ≡ y → _≡_ {A = List Message} (x ∷ []) (y ∷ [])
   one = ap (λ (m : Message). m ∷ [])
 
-  pub laid-right : (x : Sends) → told (draftOf x) (rootsOf x) ≡ messagesOf x
+  pub laid-right : (x : Sends) → rootMessages (draftOf x) (rootsOf x) ≡ messagesOf x
   laid-right sending.Nothing = refl
   laid-right (Request a b n) = one (request-at stored a b n)
   laid-right (Issue k a b ts n) = ap₂ (λ (x y : Message). x ∷ y ∷ []) (reply-at stored k a b ts n) (ticket-at stored k a b ts n)
