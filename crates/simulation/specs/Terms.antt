@@ -37,7 +37,7 @@ use Rattle.exchange.specs.Calls.{Sized}
 use Rattle.traces.specs.RuleSets.{Reading, read}
 use Rattle.traces.specs.Realm.{Realm}
 use Rattle.kerberos.specs.Rules.{Takes, takes-term}
-use Rattle.traces.specs.Terms.{messageFrom, under, given, FieldsFit}
+use Rattle.traces.specs.Terms.{messageFrom, encryptedUnder, given, FieldsFit}
 use Rattle.realm.specs.Opening.{header}
 use Rattle.realm.specs.Tables.{Tables, Together}
 use Rattle.simulation.specs.Values.{valuesOf}
@@ -93,7 +93,7 @@ by-kind n ts at terms sub s g (suc (suc zero)) x y f = refl
 by-kind n ts at terms sub s g (suc (suc (suc zero))) x y f = refl
 by-kind n ts at terms sub s g (suc (suc (suc (suc zero)))) x y f = refl
 by-kind n ts at terms sub s g (suc (suc (suc (suc (suc zero))))) x y f = rw (s x (f .0), s y (f .1))
-by-kind n ts at terms sub s g (suc (suc (suc (suc (suc (suc zero)))))) x y f = rw (s x (f .0), s y (f .1)) (ap (under (sub x)) (g y (f .1) (f .2)))
+by-kind n ts at terms sub s g (suc (suc (suc (suc (suc (suc zero)))))) x y f = rw (s x (f .0), s y (f .1)) (ap (encryptedUnder (sub x)) (g y (f .1) (f .2)))
 by-kind n ts at terms sub s g (suc (suc (suc (suc (suc (suc (suc kind))))))) x y f = absurd f
 
 -- what the rules ask of the fields, where the word passed

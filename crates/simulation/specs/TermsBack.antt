@@ -27,7 +27,7 @@ use Rattle.messages.specs.Listed.{termAt, insert, insert-new}
 use Rattle.messages.specs.Meanings.{meanings, meanings-length, meanings-at, at-meanings}
 use Rattle.exchange.specs.declared.call.Call.the-variants.{Term}
 use Rattle.exchange.specs.Calls.{accepts, Sized}
-use Rattle.traces.specs.Terms.{messageFrom, under, given, FieldsFit}
+use Rattle.traces.specs.Terms.{messageFrom, encryptedUnder, given, FieldsFit}
 use Rattle.effects.specs.Call.{numbered}
 use Rattle.simulation.specs.Terms.{word-term, by-kind}
 
@@ -49,7 +49,7 @@ there : (o : Option Message) (f : Message → Option Message) {m : Message} → 
 there none f e = no-message e
 there (some x) f e = record { value = x; is = refl; gives = e }
 
-key-under : (x y : Message) {m : Message} → under x y ≡ some m → (k : Key) × (y ≡ key k)
+key-under : (x y : Message) {m : Message} → encryptedUnder x y ≡ some m → (k : Key) × (y ≡ key k)
 key-under x (principal p) e = no-message e
 key-under x (time t) e = no-message e
 key-under x (nonce i) e = no-message e
