@@ -22,8 +22,8 @@ use Rattle.effects.specs.Apply.{Outcome, refuse, applied}
 
 -- ---- TM
 
-abbrev pub withTerms : Realm → ℕ → Realm
-withTerms h terms =
+abbrev pub withCount : Realm → ℕ → Realm
+withCount h terms =
     record { n = h .n; flags = h .flags; ls = h .ls; la = h .la; clock = h .clock; terms = terms; runs = h .runs; entries = h .entries }
 
 -- the paper's number for each case of the answer
@@ -38,10 +38,10 @@ pub record Adding : Type 0 where
   pub table : List ℕ
 
 abbrev pub adding : Realm → terms.TermOutcome → Adding
-adding h o = record { answer = numbered (o .answer); realm = withTerms h (o .count); table = o .table }
+adding h o = record { answer = numbered (o .answer); realm = withCount h (o .count); table = o .table }
 
-abbrev pub withTerm : Tables → Adding → Outcome
-withTerm t o = record { answer = o .answer; tables = tables (o .realm) (o .table) (t .runs) (t .wire) (t .cache) }
+abbrev pub withAdding : Tables → Adding → Outcome
+withAdding t o = record { answer = o .answer; tables = tables (o .realm) (o .table) (t .runs) (t .wire) (t .cache) }
 
 -- ---- ST
 
@@ -56,7 +56,7 @@ stepped t s = byVerdict t (decision t s)
 -- ---- both
 
 unfoldable pub called : Tables → Call → Outcome
-called t (calls.Term kind l r) = withTerm t (adding (t .realm) (addOf (t .realm .n) (t .terms) (t .realm .terms) (packed kind l r)))
+called t (calls.Term kind l r) = withAdding t (adding (t .realm) (addOf (t .realm .n) (t .terms) (t .realm .terms) (packed kind l r)))
 called t (calls.Step step run a b m time) = stepped t (record { step = step; run = run; a = a; b = b; m = m; t = time })
 
 -- "10 | tables handed in do not hold together | any, before all else"

@@ -26,7 +26,7 @@ use Rattle.decisions.specs.declared.Verdict.{Verdict}
 use Rattle.decisions.specs.declared.Verdict.the-variants as verdicts
 use Rattle.decisions.specs.Decision.{decision}
 use Rattle.effects.specs.Apply.{answerOf, applied}
-use Rattle.effects.specs.Call.{numbered, withTerms, byVerdict, stepped, called}
+use Rattle.effects.specs.Call.{numbered, withCount, byVerdict, stepped, called}
 
 -- what accepts is no refusal
 pub never : {A : Type 0} (a : Answer) {k : ℕ} → accepts a ≡ true → a ≡ Refused k → A
@@ -69,5 +69,5 @@ module _ (t : Tables) {k : ℕ} where
   unfolding called stepped
   refused-kept (calls.Term kind l r) q =
       let s = add-kept (t .terms) (t .realm .terms) (packed kind l r) (t .realm .n) q in
-      ap₂ (λ (count : ℕ) (ts : List ℕ). tables (withTerms (t .realm) count) ts (t .runs) (t .wire) (t .cache)) (s .0) (s .1)
+      ap₂ (λ (count : ℕ) (ts : List ℕ). tables (withCount (t .realm) count) ts (t .runs) (t .wire) (t .cache)) (s .0) (s .1)
   refused-kept (calls.Step step run a b m time) q = by-verdict (decision t (record { step = step; run = run; a = a; b = b; m = m; t = time })) q

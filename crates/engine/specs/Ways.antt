@@ -22,7 +22,7 @@ use Rattle.decisions.specs.Decision.{decision}
 use Rattle.sending.specs.declared.Prepared.{Prepared}
 use Rattle.deciding.specs.Decided.{Writable, Planned}
 use Rattle.effects.specs.Apply.{refuse, applied}
-use Rattle.effects.specs.Call.{Adding, adding, withTerm, byVerdict, stepped, called, checked}
+use Rattle.effects.specs.Call.{Adding, adding, withAdding, byVerdict, stepped, called, checked}
 
 -- ---- ST
 
@@ -58,9 +58,9 @@ module _ {n : ℕ} {ts : List ℕ} {count : ℕ} (v : Valid n ts count) (w : ℕ
 
 -- what came of adding a term to tables
 pub term-called : (t : Tables) (kind l r : ℕ) {o : Adding} → o ≡ adding (t .realm) (addOf (t .realm .n) (t .terms) (t .realm .terms) (packed kind l r))
-    → withTerm t o ≡ called t (calls.Term kind l r)
+    → withAdding t o ≡ called t (calls.Term kind l r)
 unfolding called
-term-called t kind l r e = ap (withTerm t) e
+term-called t kind l r e = ap (withAdding t) e
 
 -- a step's call is its step
 pub step-called : (t : Tables) (step run a b m time : ℕ) → stepped t (record { step = step; run = run; a = a; b = b; m = m; t = time }) ≡ called t (calls.Step step run a b m time)

@@ -43,7 +43,7 @@ use Rattle.effects.specs.Apply.{applied}
 use Rattle.simulation.specs.Taken.{refused-agrees, step-taken, step-agrees, adding-taken, adding-agrees}
 use Rattle.simulation.specs.Values.{logged, valuesOf}
 use Rattle.effects.specs.Kept.{ok}
-use Rattle.effects.specs.Call.{adding, withTerm, byVerdict, stepped, called}
+use Rattle.effects.specs.Call.{adding, withAdding, byVerdict, stepped, called}
 use Rattle.simulation.specs.Kept.{step-sends, call-kept}
 
 -- ---- what the engine keeps
@@ -101,7 +101,7 @@ module _ {R : Realm} {t : Tables} {ρ : Reading Event} (f : Follows R t ρ) (s :
 module _ {R : Realm} {t : Tables} {ρ : Reading Event} (f : Follows R t ρ) (kind l r : ℕ) (size : Sized (calls.Term kind l r)) where
   by-adding : (a : terms.Answer) (count : ℕ) (ts : List ℕ)
       → addOf (t .realm .n) (t .terms) (t .realm .terms) (packed kind l r) ≡ record { answer = a; count = count; table = ts }
-      → let o = withTerm t (adding (t .realm) (record { answer = a; count = count; table = ts })) in Matches R (o .tables) (read HD (accepts (o .answer)) (calls.Term kind l r) ρ)
+      → let o = withAdding t (adding (t .realm) (record { answer = a; count = count; table = ts })) in Matches R (o .tables) (read HD (accepts (o .answer)) (calls.Term kind l r) ρ)
   by-adding (terms.number i) count ts e =
       record { header-is = f .header-is; agrees = adding-agrees (f .together) kind l r size e (f .header-is) ρ (f .agrees) }
   by-adding (terms.refused k) count ts e =
@@ -110,7 +110,7 @@ module _ {R : Realm} {t : Tables} {ρ : Reading Event} (f : Follows R t ρ) (kin
 
   adding-takes : (a : terms.Answer) (count : ℕ) (ts : List ℕ)
       → addOf (t .realm .n) (t .terms) (t .realm .terms) (packed kind l r) ≡ record { answer = a; count = count; table = ts }
-      → accepts (withTerm t (adding (t .realm) (record { answer = a; count = count; table = ts })) .answer) ≡ true → Taken HD R ρ (calls.Term kind l r)
+      → accepts (withAdding t (adding (t .realm) (record { answer = a; count = count; table = ts })) .answer) ≡ true → Taken HD R ρ (calls.Term kind l r)
   adding-takes (terms.number i) count ts e a = adding-taken (f .together) kind l r size e (f .header-is) ρ (f .agrees)
   adding-takes (terms.refused k) count ts e a = no-true a
 

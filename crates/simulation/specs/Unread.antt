@@ -43,7 +43,7 @@ use Rattle.decisions.specs.Laws.Verdict.{decision-takes}
 use Rattle.decisions.specs.Promises.{taken-fits}
 use Rattle.effects.specs.Apply.{realmAfter, applied}
 use Rattle.effects.specs.Cache.{cacheOf}
-use Rattle.effects.specs.Call.{withTerms, numbered, byVerdict, stepped, called}
+use Rattle.effects.specs.Call.{withCount, numbered, byVerdict, stepped, called}
 use Rattle.effects.specs.Row.{changed, runCount}
 use Rattle.simulation.specs.Unread.Decided.{decision-same}
 use Rattle.simulation.specs.Unread.Added.{AddsSame, adds-same}
@@ -167,7 +167,7 @@ module _ (h : Realm) {ts ts′ rs rs′ : List ℕ} (ws : List ℕ) {c c′ : Li
   unfolding called
   one-alike (calls.Term kind l r) =
       let o = adding-same (packed kind l r) in
-      record { realm = ap (withTerms h) (o .count); terms = o .terms; rows = same-rows; wire = refl; entries = same-entries }
+      record { realm = ap (withCount h) (o .count); terms = o .terms; rows = same-rows; wire = refl; entries = same-entries }
   one-alike (calls.Step step r a b m now) = step-alike (record { step = step; run = r; a = a; b = b; m = m; t = now })
 
 -- ---- the two tables as they are
