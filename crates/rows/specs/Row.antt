@@ -26,17 +26,17 @@ abbrev pub width : ℕ
 width = 7
 
 -- the one of three that a number names; any other number names the third
-abbrev pub named : {A : Type 0} → ℕ → A → A → A → A
-named zero x y z = z
-named (suc zero) x y z = x
-named (suc (suc zero)) x y z = y
-named (suc (suc (suc w))) x y z = z
+abbrev pub byNumber : {A : Type 0} → ℕ → A → A → A → A
+byNumber zero x y z = z
+byNumber (suc zero) x y z = x
+byNumber (suc (suc zero)) x y z = y
+byNumber (suc (suc (suc w))) x y z = z
 
 abbrev pub roleOf : ℕ → Role
-roleOf w = named w Initiator Responder Server
+roleOf w = byNumber w Initiator Responder Server
 
 abbrev pub stageOf : ℕ → Stage
-stageOf w = named w Opened Authenticated Done
+stageOf w = byNumber w Opened Authenticated Done
 
 -- the words of a row
 abbrev pub wordsOf : Row → List ℕ
@@ -56,12 +56,12 @@ rowOf ws =
     }
 
 -- the number of a role or a stage
-abbrev pub known : ℕ → Bool
-known w = leb 1 w && leb w 3
+abbrev pub isKnown : ℕ → Bool
+isKnown w = leb 1 w && leb w 3
 
 -- the words are those of a row
 abbrev pub isRow : List ℕ → Bool
-isRow ws = known (getD ws 0 0) && known (getD ws 1 0) && ltb (getD ws 2 0) 256 && ltb (getD ws 3 0) 256 && ltb (getD ws 4 0) 256
+isRow ws = isKnown (getD ws 0 0) && isKnown (getD ws 1 0) && ltb (getD ws 2 0) 256 && ltb (getD ws 3 0) 256 && ltb (getD ws 4 0) 256
 
 -- a, b and k have the width of a row's fields
 pub record Fits (x : Row) : Type 0 where
@@ -71,11 +71,11 @@ pub record Fits (x : Row) : Type 0 where
 
 -- ---- laws
 
-pub named-third : {A : Type 0} (w : ℕ) (x y z : A) → (w ≡ 1 → ⊥) → (w ≡ 2 → ⊥) → z ≡ named w x y z
-named-third zero x y z p q = refl
-named-third (suc zero) x y z p q = absurd (p refl)
-named-third (suc (suc zero)) x y z p q = absurd (q refl)
-named-third (suc (suc (suc w))) x y z p q = refl
+pub byNumber-third : {A : Type 0} (w : ℕ) (x y z : A) → (w ≡ 1 → ⊥) → (w ≡ 2 → ⊥) → z ≡ byNumber w x y z
+byNumber-third zero x y z p q = refl
+byNumber-third (suc zero) x y z p q = absurd (p refl)
+byNumber-third (suc (suc zero)) x y z p q = absurd (q refl)
+byNumber-third (suc (suc (suc w))) x y z p q = refl
 
 -- the words fill a row's place, whatever stood there
 pub words-set : (x : Row) (l : List ℕ) → length l ≡ width → sets l 0 (wordsOf x) ≡ wordsOf x
@@ -113,7 +113,7 @@ row-back {x} f = λ i.
 
 -- ---- words that are those of a row
 
-numbered : {A : Type 0} (number : A → ℕ) (x y z : A) → number x ≡ 1 → number y ≡ 2 → number z ≡ 3 → (w : ℕ) → known w ≡ true → w ≡ number (named w x y z)
+numbered : {A : Type 0} (number : A → ℕ) (x y z : A) → number x ≡ 1 → number y ≡ 2 → number z ≡ 3 → (w : ℕ) → isKnown w ≡ true → w ≡ number (byNumber w x y z)
 numbered number x y z p q r zero h = no-true h
 numbered number x y z p q r (suc zero) h = sym p
 numbered number x y z p q r (suc (suc zero)) h = sym q
@@ -132,18 +132,18 @@ is-row-words (p ∷ q ∷ a ∷ b ∷ k ∷ []) size h = absurd (omega arith)
 is-row-words (p ∷ q ∷ a ∷ b ∷ k ∷ ts ∷ []) size h = absurd (omega arith)
 is-row-words (p ∷ q ∷ a ∷ b ∷ k ∷ ts ∷ ta ∷ w ∷ ws) size h = absurd (omega arith)
 is-row-words (p ∷ q ∷ a ∷ b ∷ k ∷ ts ∷ ta ∷ []) size h =
-    let t = five (known p) (known q) (ltb a 256) (ltb b 256) (ltb k 256) h in
+    let t = five (isKnown p) (isKnown q) (ltb a 256) (ltb b 256) (ltb k 256) h in
     let role = numbered roleNumber Initiator Responder Server refl refl refl p (t .first) in
     let stage = numbered stageNumber Opened Authenticated Done refl refl refl q (t .second) in
     let as-byte : (w : ℕ) → ltb w 256 ≡ true → w ≡ w % 256 = λ w e. sym (byte w (ltb-true w 256 e)) in
     λ i. role i ∷ stage i ∷ as-byte a (t .third) i ∷ as-byte b (t .fourth) i ∷ as-byte k (t .fifth) i ∷ ts ∷ ta ∷ []
 
-role-known : (role : Role) → known (roleNumber role) ≡ true
+role-known : (role : Role) → isKnown (roleNumber role) ≡ true
 role-known Initiator = refl
 role-known Responder = refl
 role-known Server = refl
 
-stage-known : (stage : Stage) → known (stageNumber stage) ≡ true
+stage-known : (stage : Stage) → isKnown (stageNumber stage) ≡ true
 stage-known Opened = refl
 stage-known Authenticated = refl
 stage-known Done = refl

@@ -1,5 +1,5 @@
 -- `rows::role_of` meets its contract: number by number. Assumes nothing.
-use Rattle.rows.specs.Row.{named-third}
+use Rattle.rows.specs.Row.{byNumber-third}
 use borrow.Author.Needs.{needs}
 use Rattle.rows.proofs.role_of.Statement.{statement}
 use Rattle.rows.proofs.role_of.Tie as tie
@@ -11,7 +11,7 @@ returns-2 : tie.Need-returns-2
 returns-2 c = search needs
 
 returns-3 : tie.Need-returns-3
-returns-3 c = named-third _ _ _ _ (c .match .rest .0 .1) (c .match .rest .1)
+returns-3 c = byNumber-third _ _ _ _ (c .match .rest .0 .1) (c .match .rest .1)
 
 pub role-of-spec : {M : Type 1} → statement M
 role-of-spec = tie.close (tie.spec returns returns-2 returns-3)
