@@ -23,21 +23,21 @@ callOf q = cond (q .adds) (Term (q .kind) (q .l) (q .r)) (Step (q .step) (q .run
 
 -- ---- its answer
 
-abbrev pub kindOf : Answer → ℕ
-kindOf (Number i) = 0
-kindOf (OkRun r) = 1
-kindOf Ok = 2
-kindOf (Refused k) = 3
+abbrev pub answerKind : Answer → ℕ
+answerKind (Number i) = 0
+answerKind (OkRun r) = 1
+answerKind Ok = 2
+answerKind (Refused k) = 3
 
 -- its number, or else 0
-abbrev pub numberOf : Answer → ℕ
-numberOf (Number i) = i
-numberOf (OkRun r) = r
-numberOf Ok = 0
-numberOf (Refused k) = k
+abbrev pub answerNumber : Answer → ℕ
+answerNumber (Number i) = i
+answerNumber (OkRun r) = r
+answerNumber Ok = 0
+answerNumber (Refused k) = k
 
 abbrev pub replyOf : Called → Reply
-replyOf x = record { realm = x .realm; kind = kindOf (x .answer); number = numberOf (x .answer) }
+replyOf x = record { realm = x .realm; kind = answerKind (x .answer); number = answerNumber (x .answer) }
 
 -- what a call comes to: the reply, and the tables
 abbrev pub replied : Outcome → Reply × Tables
