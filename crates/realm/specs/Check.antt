@@ -15,10 +15,11 @@ use Rattle.runs.specs.Promises.{rows-decided}
 use Rattle.terms.specs.Choice.{no-true, is-false}
 use Rattle.runs.specs.Lent.{rowsHold}
 use Rattle.replay.specs.declared.entry.Entry.{Entry}
+use Rattle.replay.specs.Cache.{empty}
 use Rattle.realm.specs.declared.header.Realm.{Realm}
 use Rattle.realm.specs.Opening.{headerFits}
 use Rattle.realm.specs.Header.{fits-header, header-fits}
-use Rattle.realm.specs.Tables.{Tables, EntryFits, empty, Together}
+use Rattle.realm.specs.Tables.{Tables, EntryFits, Together}
 
 -- "Times are 32 bits without sign"
 pub record TimesFit (h : Realm) : Type 0 where

@@ -10,6 +10,7 @@ use Rattle.marks.specs.Marks.{Words, marked}
 use Rattle.terms.specs.Valid.{Valid}
 use Rattle.runs.specs.Lent.{RowsHold}
 use Rattle.replay.specs.declared.entry.Entry.{Entry}
+use Rattle.replay.specs.Cache.{empty}
 use Rattle.traces.specs.Realm.{Header}
 use Rattle.realm.specs.declared.header.Realm.{Realm}
 use Rattle.realm.specs.Opening.{header}
@@ -28,10 +29,6 @@ tables h ts rs ws cache = record { realm = h; terms = ts; runs = rs; wire = ws; 
 pub record EntryFits (n : ℕ) (e : Entry) : Type 0 where
   pub b-below : e .b < n
   pub k-most : e .k ≤ 95
-
--- what a place that was never filled holds
-abbrev pub empty : Entry
-empty = record { b = 0; k = 0; ta = 0 }
 
 pub record Together (t : Tables) : Type 0 where
   -- not "a header value as in 2"

@@ -36,11 +36,11 @@ use Rattle.forms.specs.Delivery.{ticketIn, authenticatorIn, deliveryIn}
 use Rattle.terms.specs.AllOf.{each}
 use Rattle.runs.specs.Lent.{rowHolds, rowsHold}
 use Rattle.rows.specs.Runs.{runAt, setRun}
-use Rattle.replay.specs.Cache.{present, stays, kept, written}
+use Rattle.replay.specs.Cache.{empty, present, stays, kept, written}
 use Rattle.realm.specs.Check.{wireHolds, entriesHold, together}
 use Rattle.realm.specs.Input.{usesTable, inRange, inputRefusal}
 use Rattle.realm.specs.Opening.{headerFits, newRealm}
-use Rattle.realm.specs.Tables.{Tables, tables, empty}
+use Rattle.realm.specs.Tables.{Tables, tables}
 use Rattle.conditions.specs.Conditions.{admission}
 use Rattle.decisions.specs.Decision.{issues, authenticates, takes, finishes, opensRun, ticks, queries, stepOf, decided, decision}
 use Rattle.effects.specs.Apply.{applied}

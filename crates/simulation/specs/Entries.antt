@@ -12,13 +12,13 @@ use Rattle.traces.specs.RuleSets as rulesets
 use Rattle.traces.specs.Realm as exchange
 use Rattle.replay.specs.declared.entry.Entry.{Entry}
 use Rattle.replay.specs.declared.entry.Purge as replay
-use Rattle.replay.specs.Cache.{stays, kept, entries, written}
+use Rattle.replay.specs.Cache.{empty, stays, kept, entries, written}
 use Rattle.replay.specs.Cache.Entries.{filter-length}
 use Rattle.replay.specs.Cache.Places.{append-length, written-entries, written-length}
 use Rattle.replay.specs.Promises.{kept-exactly}
 use Rattle.realm.specs.declared.header.Realm.{Realm}
 use Rattle.realm.specs.Opening.{header}
-use Rattle.realm.specs.Tables.{Tables, EntryFits, empty, Together}
+use Rattle.realm.specs.Tables.{Tables, EntryFits, Together}
 use Rattle.decisions.specs.declared.Keeping.{Keeping}
 use Rattle.decisions.specs.declared.Keeping.the-variants.{Same, Remember, Forget}
 use Rattle.effects.specs.Cache.{cacheOf}

@@ -14,11 +14,12 @@ use Rattle.records.specs.Headers.{headerBytes, headerOf}
 use Rattle.records.specs.Calls.{Ending, ended, broken, Calls, callsOf}
 use Rattle.lines.specs.Lines.{headerLine, callLine, fileLine, endLine}
 use Rattle.fields.specs.Placed.{placed}
+use Rattle.replay.specs.Cache.{empty}
 use Rattle.realm.specs.declared.header.Opening.{Opening}
 use Rattle.realm.specs.declared.header.Opening.the-variants as opening
 use Rattle.realm.specs.declared.header.Realm.{Realm}
 use Rattle.realm.specs.Opening.{openingOf}
-use Rattle.realm.specs.Tables.{Tables, tables, empty}
+use Rattle.realm.specs.Tables.{Tables, tables}
 use Rattle.effects.specs.Call.{called}
 use Rattle.walkfile.specs.declared.Listing.{Listing}
 use Rattle.walkfile.specs.declared.Listing.the-variants.{Written, NoRoom}

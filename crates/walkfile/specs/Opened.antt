@@ -7,11 +7,11 @@ use lib.ListN.{length-replicate}
 use Rattle.records.specs.declared.header.Header.the-variants as header
 use Rattle.records.specs.Fields.{Bytes}
 use Rattle.records.specs.Headers.{headerOf, header-fields}
+use Rattle.replay.specs.Cache.{empty}
 use Rattle.realm.specs.declared.header.Opening.the-variants as opening
 use Rattle.realm.specs.declared.header.Realm.{Realm}
 use Rattle.realm.specs.New.{Lends, new-together}
 use Rattle.realm.specs.Opening.{header as headerOfRealm, openingOf}
-use Rattle.realm.specs.Tables.{empty}
 use Rattle.simulation.specs.Engine as engine
 use Rattle.simulation.specs.Engine.{New}
 use Rattle.walkfile.specs.Listing.{newTables}

@@ -7,8 +7,8 @@ use lib.ListN.{getD}
 use borrow.Author.Count.{below-more}
 use borrow.Author.Needs.{needs}
 use borrow.Author.Tests.{not-true, not-false}
+use Rattle.replay.specs.Cache.{empty}
 use Rattle.realm.specs.Check.{entryFits, over-limit, misfit, all-fit}
-use Rattle.realm.specs.Tables.{empty}
 use Rattle.realm.proofs.tables.entries_hold.Statement.{statement}
 use Rattle.realm.proofs.tables.entries_hold.Tie as tie
 
