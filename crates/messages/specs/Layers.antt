@@ -29,11 +29,6 @@ use Rattle.messages.specs.Standing.{Standing, EnteredIs, Longer, standin
 
 -- ---- properties of `noted`
 
-noted-suc : (v : ℕ) (vs : List ℕ) → 0 < v → noted (v ∷ vs) ≡ suc (noted vs)
-unfolding noted
-noted-suc zero vs h = absurd (omega arith)
-noted-suc (suc v) vs h = refl
-
 noted-rest : (v : ℕ) (vs : List ℕ) → noted (v ∷ vs) ≤ suc (noted vs)
 unfolding noted
 noted-rest zero vs = omega arith

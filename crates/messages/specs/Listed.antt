@@ -38,7 +38,7 @@ abbrev pub addAll : List Message → List Message → List Message
 addAll [] terms = terms
 addAll (m ∷ ms) terms = addAll ms (add m terms)
 
--- ---- a term that is present is not added again, a new one goes to the end, and every number keeps its message
+-- ---- a term that is present is not added again, and a new one goes to the end
 
 some-same : {x y : Message} → some x ≡ some y → x ≡ y
 some-same e = cc
@@ -65,13 +65,3 @@ pub insert-new : (m : Message) (terms : List Message) → ((i : ℕ) → ¬ (ter
 insert-new m [] h = refl
 insert-new m (x ∷ terms) h =
     ap {B = List Message} (λ t. x ∷ t) (new-rest (same m x) terms (insert-new m terms (λ i. h (suc i))) (λ e. h 0 (cc)))
-
-kept-rest : {m x y : Message} (d : Dec (m ≡ x)) (terms : List Message) (i : ℕ) → termAt terms i ≡ some y → termAt (insert m terms) i ≡ some y
-    → termAt (ite d terms (insert m terms)) i ≡ some y
-kept-rest (yes e) terms i old new = old
-kept-rest (no ne) terms i old new = new
-
-pub insert-keeps : (m : Message) (terms : List Message) (i : ℕ) {y : Message} → termAt terms i ≡ some y → termAt (insert m terms) i ≡ some y
-insert-keeps m [] i e = cc
-insert-keeps m (x ∷ terms) zero e = e
-insert-keeps m (x ∷ terms) (suc i) e = kept-rest (same m x) terms i e (insert-keeps m terms i e)

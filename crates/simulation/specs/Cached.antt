@@ -4,7 +4,7 @@
 use Prim.Native.Nat.{ℕ, _+_}
 use mathlib.Core.Path.{_≡_, refl, sym, ap, ap₂, _∙_}
 use mathlib.Core.Bool.{Bool, true, false, not, _&&_, cond}
-use mathlib.Core.List.{List, [], _∷_, _++_, map, List·Memᴰ, List·Memᴰ·head, List·Memᴰ·tail}
+use mathlib.Core.List.{List, [], _∷_, map, List·Memᴰ, List·Memᴰ·head, List·Memᴰ·tail}
 use borrow.Author.Tests.{eqb-true, eqb-false, eq-eqb, ne-eqb}
 use lib.Dec.{eqb, leb}
 use Rattle.terms.specs.Choice.{no-true}
@@ -49,12 +49,6 @@ absent-logged xs x e i =
     let r = logged-of xs i in
     let same : x ≡ r .place = logged-once x (r .place) (r .is) in
     no-true (sym e ∙ present-exactly xs x .1 (rw same (r .member)))
-
--- ---- one more
-
-pub logged-append : (xs ys : List replay.Entry) → map logged (xs ++ ys) ≡ map logged xs ++ map logged ys
-logged-append [] ys = refl
-logged-append (x ∷ xs) ys = ap (λ (l : List Entry). logged x ∷ l) (logged-append xs ys)
 
 -- ---- which are forgotten
 
