@@ -1,8 +1,8 @@
 -- Fields of a record as numbers: "Numbers in the file are high byte first." A place past the end reads as 0, which does not
 -- show: a record is read only where all of its bytes are there.
 -- Assumes nothing.
-use mathlib.Core.Path.{_≡_, refl}
-use mathlib.Core.Bool.{Bool, true, false, _&&_}
+use mathlib.Core.Path.{_≡_}
+use mathlib.Core.Bool.{Bool, true, false, _&&_, and-eq-true-iff}
 use mathlib.Core.List.{List}
 use Prim.Native.Nat.{ℕ, _+_, _*_, _^_, _<_, _≤_}
 use native.Mathlib.Omega.{arith}
@@ -10,7 +10,6 @@ use borrow.Author.Tests.{leb-true, le-leb, lt-leb}
 use lib.Dec.{eqb, leb}
 use lib.ListN.{length, getD, drop}
 use lib.Seq.{getD-drop}
-use Rattle.terms.specs.Choice.{no-true}
 
 -- ---- definitions
 
@@ -48,11 +47,7 @@ small32 {bytes} b at = omega (arith, small16 b at, small16 b (at + 2))
 module _ (mark width : ℕ) (bytes : List ℕ) where
   pub begins-whole : begins mark width bytes ≡ true → width ≤ length bytes
   unfolding begins
-  begins-whole h = leb-true width (length bytes) (first-true (leb width (length bytes)) (eqb (number16 bytes 0) mark) h)
-    where
-      first-true : (t u : Bool) → (t && u) ≡ true → t ≡ true
-      first-true true u e = refl
-      first-true false u e = no-true e
+  begins-whole h = leb-true width (length bytes) (and-eq-true-iff (leb width (length bytes)) (eqb (number16 bytes 0) mark) .0 h .0)
 
   pub begins-not : length bytes < width → false ≡ begins mark width bytes
   unfolding begins
