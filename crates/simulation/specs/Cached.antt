@@ -2,10 +2,9 @@
 -- more is one more.
 -- Assumes nothing.
 use Prim.Native.Nat.{ℕ, _+_}
-use mathlib.Core.Path.{_≡_, refl, sym, ap, ap₂, _∙_}
+use mathlib.Core.Path.{_≡_, refl, sym, ap, _∙_}
 use mathlib.Core.Bool.{Bool, true, false, not, _&&_, cond}
 use mathlib.Core.List.{List, [], _∷_, map, List·Memᴰ, List·Memᴰ·head, List·Memᴰ·tail}
-use borrow.Author.Tests.{eqb-true, eqb-false, eq-eqb, ne-eqb}
 use lib.Dec.{eqb, leb}
 use Rattle.terms.specs.Choice.{no-true}
 use Rattle.replay.specs.Cache.{present, stays, filter, kept}
@@ -14,7 +13,7 @@ use Rattle.replay.specs.declared.entry.Entry as replay
 use Rattle.replay.specs.declared.entry.Purge.{Purge}
 use Rattle.traces.specs.Lists.{_∈_, here, there}
 use Rattle.traces.specs.RuleSets.{Entry, entry}
-use Rattle.kerberos.specs.Log.{keepUnless, forget}
+use Rattle.kerberos.specs.Log.{forget}
 use Rattle.simulation.specs.Values.{logged}
 
 -- ---- which are present
@@ -52,15 +51,8 @@ absent-logged xs x e i =
 
 -- ---- which are forgotten
 
-eqb-swap : (x y : ℕ) → eqb x y ≡ eqb y x
-eqb-swap x y = on (eqb x y) refl
-  where
-    on : (t : Bool) → eqb x y ≡ t → t ≡ eqb y x
-    on true e = sym (eq-eqb y x (sym (eqb-true x y e)))
-    on false e = sym (ne-eqb y x (λ q. eqb-false x y e (sym q)))
-
 chosen : (x : replay.Entry) (goes : Bool) (xs : List replay.Entry)
-    → map logged (cond (not goes) (x ∷ xs) xs) ≡ keepUnless goes (logged x) (map logged xs)
+    → map logged (cond (not goes) (x ∷ xs) xs) ≡ cond goes (map logged xs) (logged x ∷ map logged xs)
 chosen x true xs = refl
 chosen x false xs = refl
 
@@ -69,4 +61,4 @@ unfolding kept stays
 logged-kept p [] = refl
 logged-kept p (x ∷ xs) =
     chosen x (eqb (x .b) (p .b) && leb (x .ta + p .la) (p .clock)) (filter (stays p) xs)
-    ∙ ap₂ (λ (own : Bool) (l : List Entry). keepUnless (own && leb (x .ta + p .la) (p .clock)) (logged x) l) (eqb-swap (x .b) (p .b)) (logged-kept p xs)
+    ∙ ap (λ (l : List Entry). cond (eqb (x .b) (p .b) && leb (x .ta + p .la) (p .clock)) l (logged x ∷ l)) (logged-kept p xs)

@@ -4,7 +4,7 @@
 use Prim.Native.Nat.{ℕ, _+_, _≤_}
 use mathlib.Core.Path.{_≡_, refl}
 use mathlib.Core.Logic.{_⊎_, inl, inr, ⊎-elim}
-use mathlib.Core.Bool.{Bool, true, false, _&&_}
+use mathlib.Core.Bool.{Bool, true, false, _&&_, and-eq-true-iff, cond}
 use mathlib.Core.List.{List, [], _∷_, _++_}
 use native.Mathlib.Omega.{arith}
 use lib.Dec.{leb, eqb}
@@ -15,7 +15,7 @@ use Rattle.traces.specs.Lists.{_∈_, here, there}
 use Rattle.traces.specs.Logs.{Did, did, add}
 use Rattle.traces.specs.RuleSets.{Entry, entry, refused, taken}
 use Rattle.kerberos.specs.Messages.{Form}
-use Rattle.kerberos.specs.Log.{Event, Accept, Log, keepUnless, forget, cache, clock}
+use Rattle.kerberos.specs.Log.{Event, Accept, Log, forget, cache, clock}
 use Rattle.kerberos.specs.Rules.{takes-term, takes1, takes2, takes3, takes4, takes5, takes6, takes7, takes8, takes9, takes10}
 use Rattle.kerberos.specs.Laws.Trace.{Adds, Trace}
 
@@ -34,23 +34,18 @@ in-append d (there i) = there (in-append d i)
 
 -- ---- step 8 forgets only what is dead
 
-pass-on : (t : Bool) {x : Entry} (y : Entry) {c : List Entry} {D : Type 0} → (x ∈ c) ⊎ D → (x ∈ keepUnless t y c) ⊎ D
+pass-on : (t : Bool) {x : Entry} (y : Entry) {c : List Entry} {D : Type 0} → (x ∈ c) ⊎ D → (x ∈ cond t c (y ∷ c)) ⊎ D
 pass-on true y h = h
 pass-on false y (inl i) = inl (there i)
 pass-on false y (inr d) = inr d
 
-test : (t : Bool) (x : Entry) (c : List Entry) {D : Type 0} → (t ≡ true → D) → (x ∈ keepUnless t x c) ⊎ D
+test : (t : Bool) (x : Entry) (c : List Entry) {D : Type 0} → (t ≡ true → D) → (x ∈ cond t c (x ∷ c)) ⊎ D
 test true x c f = inr (f refl)
 test false x c f = inl here
 
-second : (s t : Bool) → (s && t) ≡ true → t ≡ true
-second true t e = e
-second false true e = refl
-second false false e = e
-
 forgets : {b k ta : ℕ} (b′ t life : ℕ) {c : List Entry} → entry b k ta ∈ c → (entry b k ta ∈ forget b′ t life c) ⊎ (ta + life ≤ t)
-forgets {b} {k} {ta} b′ t life here = test (eqb b′ b && leb (ta + life) t) _ _ (λ e. leb-true _ _ (second (eqb b′ b) _ e))
-forgets b′ t life (there {y = entry b₂ k₂ ta₂} i) = pass-on (eqb b′ b₂ && leb (ta₂ + life) t) (entry b₂ k₂ ta₂) (forgets b′ t life i)
+forgets {b} {k} {ta} b′ t life here = test (eqb b b′ && leb (ta + life) t) _ _ (λ e. leb-true _ _ (and-eq-true-iff (eqb b b′) _ .0 e .1))
+forgets b′ t life (there {y = entry b₂ k₂ ta₂} i) = pass-on (eqb b₂ b′ && leb (ta₂ + life) t) (entry b₂ k₂ ta₂) (forgets b′ t life i)
 
 -- ---- an accepted authenticator is in the cache or dead
 
