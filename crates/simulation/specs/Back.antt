@@ -5,7 +5,7 @@ use Prim.Native.Nat.{ℕ, zero, suc, _+_, _<_, _≤_}
 use mathlib.Core.Path.{_≡_, refl, sym, ap, _∙_, subst}
 use mathlib.Core.Bool.{true, false}
 use mathlib.Core.List.{List, [], _∷_, map, List·Memᴰ, List·Memᴰ·head, List·Memᴰ·tail}
-use mathlib.Core.Option.{some}
+use mathlib.Core.Option.{some, Option·some-injective}
 use native.Mathlib.Omega.{arith}
 use lib.ListN.{length, getElem?}
 use Rattle.terms.specs.Message.{Message, session, key, pair}
@@ -63,12 +63,6 @@ logged-absent xs x n = sym (is-false (present xs x) (λ e. n (logged-in xs (pres
 
 -- ---- a run as its row
 
-same-run : {x y : Run} → some x ≡ some y → x ≡ y
-same-run e = cc
-
-same-row : {x y : Row} → some x ≡ some y → x ≡ y
-same-row e = cc
-
 -- element r of a list of runs is there, and is stored as this row
 record Listed (xs : List Run) (r : ℕ) (own : Row) : Type 0 where
   below : r < length xs
@@ -76,7 +70,7 @@ record Listed (xs : List Run) (r : ℕ) (own : Row) : Type 0 where
 
 listed : (xs : List Run) (r : ℕ) {x : Run} → getElem? xs r ≡ some x → Listed xs r (stored x)
 listed [] r e = let z : _≡_ {A = ℕ} 0 1 = cc in absurd (omega arith)
-listed (y ∷ xs) zero e = record { below = omega arith; is = ap (λ (x : Run). some (stored x)) (same-run e) }
+listed (y ∷ xs) zero e = record { below = omega arith; is = ap (λ (x : Run). some (stored x)) (Option·some-injective _ _ e) }
 listed (y ∷ xs) (suc r) e = let f = listed xs r e in record { below = omega (arith, f .below); is = f .is }
 
 -- run r of the tables is there, with this row
@@ -130,7 +124,7 @@ module _ (t : Tables) (ρ : Reading Event) (fits : Together t) (g : Agrees HD (h
   stands {r} e =
       let f = listed (runs (ρ .log)) r e in
       let h : r < t .realm .runs = omega (arith, f .below, next-is t ρ fits g) in
-      record { below = h; is = same-row (sym (rows-at (t .runs) (t .realm .runs) r h) ∙ ap (λ (x : List Row). getElem? x r) (g .runs-are) ∙ f .is) }
+      record { below = h; is = Option·some-injective _ _ (sym (rows-at (t .runs) (t .realm .runs) r h) ∙ ap (λ (x : List Row). getElem? x r) (g .runs-are) ∙ f .is) }
 
   absent : {b k ta : ℕ} → ¬ (entry b k ta ∈ cache (header (t .realm)) (ρ .log))
       → present (entries (t .cache) (t .realm .entries)) (record { b = b; k = k; ta = ta }) ≡ false

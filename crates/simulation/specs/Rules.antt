@@ -4,7 +4,7 @@ use Prim.Native.Nat.{ℕ, zero, suc, _+_, _<_}
 use mathlib.Core.Path.{_≡_, refl, sym, ap, _∙_, subst}
 use mathlib.Core.Bool.{false}
 use mathlib.Core.List.{List, [], _∷_, map}
-use mathlib.Core.Option.{some}
+use mathlib.Core.Option.{some, Option·some-injective}
 use native.Mathlib.Omega.{arith}
 use lib.ListN.{length, length-map, getElem?}
 use lib.Seq.{length-take-le}
@@ -54,12 +54,9 @@ record From (xs : List Run) (r : ℕ) (own : Row) : Type 0 where
   is : getElem? xs r ≡ some x
   as-row : stored x ≡ own
 
-same-some : {x y : Row} → some x ≡ some y → x ≡ y
-same-some e = cc
-
 stored-from : (xs : List Run) (r : ℕ) {own : Row} → getElem? (map stored xs) r ≡ some own → From xs r own
 stored-from [] r e = let z : _≡_ {A = ℕ} 0 1 = cc in absurd (omega arith)
-stored-from (x ∷ xs) zero e = record { x = x; is = refl; as-row = same-some e }
+stored-from (x ∷ xs) zero e = record { x = x; is = refl; as-row = Option·some-injective _ _ e }
 stored-from (x ∷ xs) (suc r) e = let f = stored-from xs r e in record { x = f .x; is = f .is; as-row = f .as-row }
 
 -- a run by its role and stage and its row

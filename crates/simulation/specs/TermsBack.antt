@@ -5,7 +5,7 @@ use Prim.Native.Nat.{ℕ, zero, suc, _<_, _≤_}
 use mathlib.Core.Path.{_≡_, refl, sym, ap, ap₂, _∙_}
 use mathlib.Core.Bool.{Bool, true, false, cond}
 use mathlib.Core.List.{List, [], _∷_}
-use mathlib.Core.Option.{Option, none, some}
+use mathlib.Core.Option.{Option, none, some, Option·some-injective}
 use native.Mathlib.Omega.{arith}
 use borrow.Author.Tests.{eq-eqb, eqb-true}
 use lib.Dec.{eqb}
@@ -35,9 +35,6 @@ use Rattle.simulation.specs.Terms.{word-term, by-kind}
 
 no-message : {A : Type 0} {m : Message} → none ≡ some m → A
 no-message e = let z : _≡_ {A = ℕ} 0 1 = cc in absurd (omega arith)
-
-same-message : {x y : Message} → some x ≡ some y → x ≡ y
-same-message e = cc
 
 -- a value that is there
 record There (o : Option Message) (f : Message → Option Message) (m : Message) : Type 0 where
@@ -110,7 +107,7 @@ module _ {n : ℕ} {ts : List ℕ} {count : ℕ} (v : Valid n ts count) where
     -- the message is that of the term's word, which no term of the table has if it is absent
     means : m ≡ messageOf (messageAt ts) (termBy kind x y)
     means =
-        same-message (sym made ∙ by-kind n ts count (meanings ts count) (messageAt ts) (λ k h. meanings-at ts count k h) (λ k h q. key-at (v .terms) k h q) kind x y (p .fine))
+        Option·some-injective _ _ (sym made ∙ by-kind n ts count (meanings ts count) (messageAt ts) (λ k h. meanings-at ts count k h) (λ k h q. key-at (v .terms) k h q) kind x y (p .fine))
 
     own : (k : ℕ) → k < count → numberIn (termsOf ts count) (messageAt ts k) ≡ k
     own k h = ap (numberIn (termsOf ts count)) (terms-message v k h) ∙ number-at (termsOf ts count) (terms-list v) k (omega (arith, terms-length v))

@@ -5,7 +5,7 @@ use Prim.Native.Nat.{ℕ, _<_}
 use mathlib.Core.Path.{_≡_, sym, ap, subst, _∙_}
 use mathlib.Core.Bool.{not, cond}
 use mathlib.Core.List.{List}
-use mathlib.Core.Option.{some}
+use mathlib.Core.Option.{Option·some-injective}
 use lib.Dec.{eqb}
 use lib.ListN.{getElem?, getD}
 use Rattle.terms.specs.Choice.{Decides}
@@ -55,10 +55,7 @@ derivable-same flags {n} {ts} {ts′} {count} v v′ same {ws} words m h =
 -- ---- what is read of a row, and of the cache
 
 pub run-same : (rs rs′ : List ℕ) (count : ℕ) → rowsOf rs count ≡ rowsOf rs′ count → (r : ℕ) → r < count → runAt rs r ≡ runAt rs′ r
-run-same rs rs′ count same r h = inside (sym (rows-at rs count r h) ∙ ap (λ (l : List Row). getElem? l r) same ∙ rows-at rs′ count r h)
-  where
-    inside : {x y : Row} → some x ≡ some y → x ≡ y
-    inside e = cc
+run-same rs rs′ count same r h = Option·some-injective _ _ (sym (rows-at rs count r h) ∙ ap (λ (l : List Row). getElem? l r) same ∙ rows-at rs′ count r h)
 
 pub admission-same : (h : Realm) (c c′ : List Entry) → entries c (h .entries) ≡ entries c′ (h .entries) → (ts : ℕ) (e : Entry) → admission h c ts e ≡ admission h c′ ts e
 unfolding admission
