@@ -9,7 +9,7 @@ use Rattle.terms.specs.Message.{Message}
 use Rattle.traces.specs.Realm.{Realm}
 use Rattle.traces.specs.Lists.{_∈_, here, there}
 use Rattle.traces.specs.Logs.{Did}
-use Rattle.traces.specs.Rows.{Effect, moved, rested, change-append, change-set, Telling, recorded, traced}
+use Rattle.traces.specs.Rows.{RowEffect, moved, rested, change-append, change-set, Telling, recorded, traced}
 use Rattle.traces.specs.RuleSets.{refused, taken}
 use Rattle.kerberos.specs.Messages.{Form}
 use Rattle.kerberos.specs.Log.{Event, Initiate, Respond, Issue, Authenticate, Accept, Finish, Tick, Purge, Leak, Nothing, Log, runs, run}
@@ -43,7 +43,7 @@ story r (some (responderOpened a b)) = Respond r a b ∷ []
 story r (some (responderDone a b k ts ta)) = Accept r a b k ts ta ∷ Respond r a b ∷ []
 story r (some (serverDone a b k ts n)) = Issue r a b ts n ∷ []
 
-effect : {f : Form} {R : Realm} {l : Log} {e : Event} {ms : List Message} → Adds f R l (e, ms) → Effect of story e (runs l) (runs ((e, ms) ∷ l))
+effect : {f : Form} {R : Realm} {l : Log} {e : Event} {ms : List Message} → Adds f R l (e, ms) → RowEffect of story e (runs l) (runs ((e, ms) ∷ l))
 effect refused = rested refl refl
 effect (taken (takes-term i h f)) = rested refl refl
 effect {l = l} (taken (takes1 i p s f)) = moved refl (change-append (runs l) _) refl
