@@ -16,6 +16,6 @@ pub record Writable (t : Tables) (x : Effect) (r : Prepared) : Type 0 where
   pub room : t .realm .terms + r .plan .count ≤ 512
 
 -- a step that is refused has nothing to write
-abbrev pub Planned : Tables → Verdict → Prepared → Type 0
-Planned t (Refused number) r = Unit {0}
-Planned t (Takes x) r = Writable t x r
+abbrev pub WritableBy : Tables → Verdict → Prepared → Type 0
+WritableBy t (Refused number) r = Unit {0}
+WritableBy t (Takes x) r = Writable t x r

@@ -13,7 +13,7 @@ use terms::table::MAX_TERMS;
 ghost use mathlib.Core.Path.{_≡_};
 ghost use Rattle.realm.specs.Tables.{tables, Together};
 ghost use Rattle.decisions.specs.Decision.{decision};
-ghost use Rattle.deciding.specs.Decided.{Planned};
+ghost use Rattle.deciding.specs.Decided.{WritableBy};
 
 pub struct Decision {
     pub verdict: Verdict,
@@ -30,7 +30,7 @@ pub fn decide(
     s: Step,
 ) -> Decision
     requires { ⌜ Together (tables h (now terms) (now runs) (now wire) cache) ⌝ }
-    ensures { λ r. ⌜ (r .verdict ≡ decision (tables h (now (terms .entry)) (now (runs .entry)) (now (wire .entry)) cache) s) × Planned (tables h (now (terms .entry)) (now (runs .entry)) (now (wire .entry)) cache) (r .verdict) (r .prepared) ⌝ }
+    ensures { λ r. ⌜ (r .verdict ≡ decision (tables h (now (terms .entry)) (now (runs .entry)) (now (wire .entry)) cache) s) × WritableBy (tables h (now (terms .entry)) (now (runs .entry)) (now (wire .entry)) cache) (r .verdict) (r .prepared) ⌝ }
 {
     match by_row(h, terms, runs, wire, cache, s) {
         Verdict::Refused(number) => {

@@ -20,7 +20,7 @@ use Rattle.decisions.specs.declared.Verdict.the-variants.{Takes, Refused}
 use Rattle.decisions.specs.declared.Verdict.{Verdict}
 use Rattle.decisions.specs.Decision.{decision}
 use Rattle.sending.specs.declared.Prepared.{Prepared}
-use Rattle.deciding.specs.Decided.{Writable, Planned}
+use Rattle.deciding.specs.Decided.{Writable, WritableBy}
 use Rattle.effects.specs.Apply.{refuse, applied}
 use Rattle.effects.specs.Call.{Adding, adding, withAdding, byVerdict, stepped, called, checked}
 
@@ -36,8 +36,8 @@ module _ (t : Tables) (s : Step) where
   step-taken e = sym (ap (byVerdict t) e)
 
 -- what a verdict that takes says of its plan
-pub writable : (t : Tables) {v : Verdict} {x : Effect} {r : Prepared} → v ≡ Takes x → Planned t v r → Writable t x r
-writable t {r = r} e w = subst (λ (v : Verdict). Planned t v r) e w
+pub writable : (t : Tables) {v : Verdict} {x : Effect} {r : Prepared} → v ≡ Takes x → WritableBy t v r → Writable t x r
+writable t {r = r} e w = subst (λ (v : Verdict). WritableBy t v r) e w
 
 module _ (t : Tables) (c : Call) where
   pub check-refused : together t ≡ false → refuse t 10 ≡ checked t c
