@@ -27,7 +27,7 @@ withCount h terms =
     record { n = h .n; flags = h .flags; ls = h .ls; la = h .la; clock = h .clock; terms = terms; runs = h .runs; entries = h .entries }
 
 -- the paper's number for each case of the answer
-abbrev pub numbered : terms.Answer → Answer
+abbrev pub numbered : terms.TermAnswer → Answer
 numbered (terms.number i) = answers.Number i
 numbered (terms.refused k) = answers.Refused k
 

@@ -33,14 +33,14 @@ use Rattle.effects.specs.Kept.{never, ok}
 -- ---- TM
 
 -- whether an answer is 10
-abbrev ten : terms.Answer → Bool
+abbrev ten : terms.TermAnswer → Bool
 ten (terms.number i) = false
 ten (terms.refused k) = eqb k 10
 
 same : {k : ℕ} → Refused k ≡ Refused 10 → k ≡ 10
 same e = cc
 
-told : (a : terms.Answer) → ten a ≡ false → ¬ (numbered a ≡ Refused 10)
+told : (a : terms.TermAnswer) → ten a ≡ false → ¬ (numbered a ≡ Refused 10)
 told (terms.number i) e q = never (numbered (terms.number i)) refl q
 told (terms.refused k) e q = eqb-false k 10 e (same q)
 

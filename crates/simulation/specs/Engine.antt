@@ -99,7 +99,7 @@ module _ {R : Realm} {t : Tables} {ρ : Reading Event} (f : Follows R t ρ) (s :
 -- ---- a term
 
 module _ {R : Realm} {t : Tables} {ρ : Reading Event} (f : Follows R t ρ) (kind l r : ℕ) (size : Sized (calls.Term kind l r)) where
-  by-adding : (a : terms.Answer) (count : ℕ) (ts : List ℕ)
+  by-adding : (a : terms.TermAnswer) (count : ℕ) (ts : List ℕ)
       → addOf (t .realm .n) (t .terms) (t .realm .terms) (packed kind l r) ≡ record { answer = a; count = count; table = ts }
       → let o = withAdding t (adding (t .realm) (record { answer = a; count = count; table = ts })) in Matches R (o .tables) (read HD (accepts (o .answer)) (calls.Term kind l r) ρ)
   by-adding (terms.number i) count ts e =
@@ -108,7 +108,7 @@ module _ {R : Realm} {t : Tables} {ρ : Reading Event} (f : Follows R t ρ) (kin
       let same = subst (AddsTerm (t .realm .n) (t .terms) (t .realm .terms) (packed kind l r)) e (adds (f .together .terms-hold) (packed kind l r)) .is in
       rw (same .0, same .1) (kept (calls.Term kind l r) f)
 
-  adding-takes : (a : terms.Answer) (count : ℕ) (ts : List ℕ)
+  adding-takes : (a : terms.TermAnswer) (count : ℕ) (ts : List ℕ)
       → addOf (t .realm .n) (t .terms) (t .realm .terms) (packed kind l r) ≡ record { answer = a; count = count; table = ts }
       → accepts (withAdding t (adding (t .realm) (record { answer = a; count = count; table = ts })) .answer) ≡ true → Taken HD R ρ (calls.Term kind l r)
   adding-takes (terms.number i) count ts e a = adding-taken (f .together) kind l r size e (f .header-is) ρ (f .agrees)

@@ -39,7 +39,7 @@ module _ {t : Tables} (w : Together t) where
   by-verdict s size (verdicts.Takes x) d = step-together w s (decision-takes t s d .0) (step-sends t s d) size
   by-verdict s size (verdicts.Refused k) d = w
 
-  by-adding : (kind l r : ℕ) → Sized (calls.Term kind l r) → (a : terms.Answer) (count : ℕ) (ts : List ℕ)
+  by-adding : (kind l r : ℕ) → Sized (calls.Term kind l r) → (a : terms.TermAnswer) (count : ℕ) (ts : List ℕ)
       → addOf (t .realm .n) (t .terms) (t .realm .terms) (packed kind l r) ≡ record { answer = a; count = count; table = ts }
       → Together (withAdding t (adding (t .realm) (record { answer = a; count = count; table = ts })) .tables)
   by-adding kind l r size (terms.number i) count ts e = adding-together w kind l r size e

@@ -20,7 +20,7 @@ use Rattle.terms.specs.Add.{addOf, addBy, Extends, AddedIs, adds}
 use Rattle.terms.specs.Meaning.{keyOf, messageOf, messageAt, message-at, messages-same, key-at}
 use Rattle.terms.specs.Message.{Message, key}
 use Rattle.terms.specs.Number.{messages-once}
-use Rattle.terms.specs.Outcome.{Answer, number, refused, TermOutcome, accept, refuse}
+use Rattle.terms.specs.Outcome.{TermAnswer, number, refused, TermOutcome, accept, refuse}
 use Rattle.terms.specs.Rules.{isKey, spare, refusalOf, Fields, passed, fields}
 use Rattle.terms.specs.Rules as rules
 use Rattle.terms.specs.Table.{findOf}
@@ -59,7 +59,7 @@ word-term kind x y hx hy =
 -- ---- the answer
 
 -- an accepted word passed the rules, and stands behind all terms if it is new
-abbrev Accepted : (n : ℕ) (ts : List ℕ) (count w : ℕ) → Answer → ℕ → Type 0
+abbrev Accepted : (n : ℕ) (ts : List ℕ) (count w : ℕ) → TermAnswer → ℕ → Type 0
 Accepted n ts count w (number i) count′ = (refusalOf n ts count w ≡ 0) × (count′ ≤ suc count) × (count < count′ → i ≡ count)
 Accepted n ts count w (refused r) count′ = Unit {0}
 

@@ -14,7 +14,7 @@ use Rattle.terms.specs.declared.table.Added.{Added}
 use Rattle.terms.specs.declared.table.Added.the-variants.{Old, New, Refused}
 use Rattle.terms.specs.declared.table.Found.{Found}
 use Rattle.terms.specs.declared.table.Found.the-variants.{At, Nothing}
-use Rattle.terms.specs.Outcome.{Answer, number, refused, TermOutcome, accept, refuse}
+use Rattle.terms.specs.Outcome.{TermAnswer, number, refused, TermOutcome, accept, refuse}
 use Rattle.terms.specs.Rules.{refusalOf, refusal-same, Agree}
 use Rattle.terms.specs.Table.{findOf, found-at}
 use Rattle.terms.specs.Valid.{Terms, Valid, terms-same, terms-more}
@@ -70,7 +70,7 @@ extends-by {n} {ts} {count} v ts′ w g e r f =
 
 -- ---- what holds after it
 
-abbrev pub AddedIs : (n : ℕ) (ts : List ℕ) (count w : ℕ) → Answer → ℕ → List ℕ → Type 0
+abbrev pub AddedIs : (n : ℕ) (ts : List ℕ) (count w : ℕ) → TermAnswer → ℕ → List ℕ → Type 0
 AddedIs n ts count w (number i) count′ ts′ = (i < count′) × (getD ts′ i 0 ≡ w) × Extends n ts count ts′ count′
 AddedIs n ts count w (refused r) count′ ts′ = (count′ ≡ count) × (ts′ ≡ ts)
 

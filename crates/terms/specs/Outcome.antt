@@ -5,12 +5,12 @@ use mathlib.Core.List.{List}
 use Prim.Native.Nat.{ℕ}
 
 -- a term's number, or a refusal's: "A refusal is its number alone"
-pub data Answer : Type 0 where
-  number : ℕ → Answer
-  refused : ℕ → Answer
+pub data TermAnswer : Type 0 where
+  number : ℕ → TermAnswer
+  refused : ℕ → TermAnswer
 
 pub record TermOutcome : Type 0 where
-  pub answer : Answer
+  pub answer : TermAnswer
   pub count : ℕ
   pub table : List ℕ
 
