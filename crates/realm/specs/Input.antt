@@ -115,7 +115,7 @@ module _ (h : Realm) (s : Step) where
 
 -- ---- what a step that passes has
 
-pub record Passed (h : Realm) (s : Step) : Type 0 where
+pub record InputPassed (h : Realm) (s : Step) : Type 0 where
   pub low : 1 ≤ s .step
   pub high : s .step ≤ 10
   pub unused : unusedZero (usesOf (s .step)) s ≡ true
@@ -127,12 +127,12 @@ all-three true true false e = absurd (omega arith)
 all-three true false c e = absurd (omega arith)
 all-three false b c e = absurd (omega arith)
 
-pub passed : (h : Realm) (s : Step) → inputRefusal h s ≡ 0 → Passed h s
+pub passed : (h : Realm) (s : Step) → inputRefusal h s ≡ 0 → InputPassed h s
 unfolding inputRefusal
 passed h s e =
     let t = all-three (leb 1 (s .step) && leb (s .step) 10) (unusedZero (usesOf (s .step)) s) (inRange h (usesOf (s .step)) s) e in
     let u = and-eq-true-iff (leb 1 (s .step)) (leb (s .step) 10) .0 (t .0) in
     record { low = leb-true 1 (s .step) (u .0); high = leb-true (s .step) 10 (u .1); unused = t .1; range = t .2 }
 
-pub passed-back : (h : Realm) (s : Step) → Passed h s → inputRefusal h s ≡ 0
+pub passed-back : (h : Realm) (s : Step) → InputPassed h s → inputRefusal h s ≡ 0
 passed-back h s p = sym (passes h s (p .low) (p .high) (p .unused) (p .range))

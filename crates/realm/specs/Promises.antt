@@ -13,7 +13,7 @@ use Rattle.realm.specs.declared.input.Step.{Step}
 use Rattle.realm.specs.Check as checks
 use Rattle.realm.specs.Check.{TimesFit, WordsFit, together}
 use Rattle.realm.specs.Header.{values, fits-header, header-fits}
-use Rattle.realm.specs.Input.{inputRefusal, Passed, passed, passed-back}
+use Rattle.realm.specs.Input.{inputRefusal, InputPassed, passed, passed-back}
 use Rattle.realm.specs.New as new
 use Rattle.realm.specs.New.{Lends}
 use Rattle.realm.specs.Opening.{headerFits, openingOf}
@@ -24,7 +24,7 @@ pub header-exact : (n flags ls la : ℕ) → ls < 2 ^ 32 → la < 2 ^ 32 → (he
 header-exact n flags ls la hs ha = (fits-header n flags ls la hs ha, header-fits n flags ls la)
 
 -- A step's fields pass exactly where the step is one of ten, unused fields are 0, and used ones are in range.
-pub input-exact : (h : Realm) (s : Step) → (inputRefusal h s ≡ 0) ↔ Passed h s
+pub input-exact : (h : Realm) (s : Step) → (inputRefusal h s ≡ 0) ↔ InputPassed h s
 input-exact h s = (passed h s, passed-back h s)
 
 -- The check of tables says exactly that they hold together, where their words and fields have their widths.

@@ -79,13 +79,13 @@ module _ (list : List Entry) (count n : ℕ) (after : List Entry) where
 
   module _ (e : Entry) where
     -- what an accepted `remember` has passed
-    pub record Passed : Type 0 where
+    pub record RememberPassed : Type 0 where
       pub fit : fits list count ≡ true
       pub absent : present (entries list count) e ≡ false
       pub room : count < 16
       pub held : holding list count (entries list count ++ (e ∷ [])) ≡ accepted n after
 
-    pub remembered-back : remembered list count e ≡ accepted n after → Passed
+    pub remembered-back : remembered list count e ≡ accepted n after → RememberPassed
     unfolding remembered
     remembered-back h =
         let f = passed list 10 n after (not (fits list count)) _ h in
