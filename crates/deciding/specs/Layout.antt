@@ -6,7 +6,7 @@ use Rattle.drafts.specs.declared.Node.{Node}
 use Rattle.terms.specs.Valid.{Valid}
 use Rattle.sending.specs.Send.{AllWrites}
 use Rattle.layouts.specs.Drafts.{REQUEST_ROOT, REPLY_ROOT, TICKET_ROOT, AUTHENTICATOR_ROOT, CONFIRMATION_ROOT, KEY_ROOT}
-use Rattle.layouts.specs.Drafts.{laid, requestDraft, issueDraft, authenticatorDraft, confirmationDraft, keyDraft}
+use Rattle.layouts.specs.Drafts.{places, requestDraft, issueDraft, authenticatorDraft, confirmationDraft, keyDraft}
 use Rattle.decisions.specs.declared.Sends.{Sends}
 use Rattle.decisions.specs.declared.Sends.the-variants.{Request, Issue, Authenticator, Confirmation, Key}
 use Rattle.decisions.specs.declared.Sends.the-variants as sending
@@ -28,7 +28,7 @@ rootsOf (Key k) = At KEY_ROOT KEY_ROOT
 
 -- the nodes themselves, none where nothing is sent
 abbrev pub draftOf : Sends → List Node
-draftOf sending.Nothing = laid []
+draftOf sending.Nothing = places 16 []
 draftOf (Request a b n) = requestDraft a b n
 draftOf (Issue k a b ts n) = issueDraft k a b ts n
 draftOf (Authenticator a ta k) = authenticatorDraft a ta k

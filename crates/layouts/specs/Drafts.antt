@@ -13,15 +13,12 @@ places zero xs = []
 places (suc m) [] = Time 0 ∷ places m []
 places (suc m) (x ∷ xs) = x ∷ places m xs
 
-abbrev pub laid : List Node → List Node
-laid xs = places 16 xs
-
 -- step 1 "sends [a, b, nonce r]"
 abbrev pub REQUEST_ROOT : ℕ
 REQUEST_ROOT = 4
 
 unfoldable pub requestDraft : (a b n : ℕ) → List Node
-requestDraft a b n = laid (Principal a ∷ Principal b ∷ Nonce n ∷ Pair 1 2 ∷ Pair 0 3 ∷ [])
+requestDraft a b n = places 16 (Principal a ∷ Principal b ∷ Nonce n ∷ Pair 1 2 ∷ Pair 0 3 ∷ [])
 
 -- step 3 "sends {K, b, Ts, N} under a's key, then {K, a, Ts} under b's key"
 abbrev pub REPLY_ROOT : ℕ
@@ -31,7 +28,7 @@ abbrev pub TICKET_ROOT : ℕ
 TICKET_ROOT = 11
 
 unfoldable pub issueDraft : (k a b ts n : ℕ) → List Node
-issueDraft k a b ts n = laid (
+issueDraft k a b ts n = places 16 (
     Key (Session k)
     ∷ Principal b
     ∷ Time ts
@@ -51,18 +48,18 @@ abbrev pub AUTHENTICATOR_ROOT : ℕ
 AUTHENTICATOR_ROOT = 3
 
 unfoldable pub authenticatorDraft : (a ta k : ℕ) → List Node
-authenticatorDraft a ta k = laid (Principal a ∷ Time ta ∷ Pair 0 1 ∷ Encrypted 2 (Session k) ∷ [])
+authenticatorDraft a ta k = places 16 (Principal a ∷ Time ta ∷ Pair 0 1 ∷ Encrypted 2 (Session k) ∷ [])
 
 -- step 5 "sends {Ta}K"
 abbrev pub CONFIRMATION_ROOT : ℕ
 CONFIRMATION_ROOT = 1
 
 unfoldable pub confirmationDraft : (ta k : ℕ) → List Node
-confirmationDraft ta k = laid (Time ta ∷ Encrypted 0 (Session k) ∷ [])
+confirmationDraft ta k = places 16 (Time ta ∷ Encrypted 0 (Session k) ∷ [])
 
 -- step 9 "leaks a server run's key"
 abbrev pub KEY_ROOT : ℕ
 KEY_ROOT = 0
 
 unfoldable pub keyDraft : ℕ → List Node
-keyDraft k = laid (Key (Session k) ∷ [])
+keyDraft k = places 16 (Key (Session k) ∷ [])
