@@ -5,7 +5,7 @@ use Prim.Native.Nat.{ℕ, zero, suc}
 use mathlib.Core.HLevel.{Discrete}
 use mathlib.Core.List.{List, [], _∷_, _++_}
 use mathlib.Core.Logic.{ite}
-use mathlib.Core.Option.{Option, some}
+use mathlib.Core.Option.{Option, some, Option·some-injective}
 use mathlib.Core.Path.{_≡_, refl, ap}
 use native.Mathlib.Decide.{ℕ-discrete}
 use lib.ListN.{getElem?}
@@ -40,9 +40,6 @@ addAll (m ∷ ms) terms = addAll ms (add m terms)
 
 -- ---- a term that is present is not added again, and a new one goes to the end
 
-some-same : {x y : Message} → some x ≡ some y → x ≡ y
-some-same e = cc
-
 present-rest : {m x : Message} (d : Dec (m ≡ x)) (terms : List Message) → insert m terms ≡ terms → ite d terms (insert m terms) ≡ terms
 present-rest (yes e) terms h = refl
 present-rest (no ne) terms h = h
@@ -53,7 +50,7 @@ here-rest (no ne) terms h = absurd (ne (cc))
 
 pub insert-present : (m : Message) (terms : List Message) (i : ℕ) → termAt terms i ≡ some m → insert m terms ≡ terms
 insert-present m [] i e = cc
-insert-present m (x ∷ terms) zero e = ap {B = List Message} (λ t. x ∷ t) (here-rest (same m x) terms (some-same e))
+insert-present m (x ∷ terms) zero e = ap {B = List Message} (λ t. x ∷ t) (here-rest (same m x) terms (Option·some-injective _ _ e))
 insert-present m (x ∷ terms) (suc i) e = ap {B = List Message} (λ t. x ∷ t) (present-rest (same m x) terms (insert-present m terms i e))
 
 new-rest : {m x : Message} (d : Dec (m ≡ x)) (terms : List Message) → insert m terms ≡ terms ++ (m ∷ []) → ¬ (m ≡ x)
