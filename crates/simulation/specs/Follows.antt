@@ -17,9 +17,8 @@ use Rattle.deduction.specs.Known.{Known}
 use Rattle.sending.specs.Send.{sent, sendOf, SentIs}
 use Rattle.sending.specs.Promises.{send-accepted}
 use Rattle.kerberos.specs.Log.{Event, Nothing}
-use Rattle.traces.specs.Engines as engines
 use Rattle.kerberos.specs.Reading.{HD}
-use Rattle.traces.specs.Engines.{Agrees}
+use Rattle.traces.specs.Engines.{Values, Agrees}
 use Rattle.kerberos.specs.Log.{clock, runs, runsAfter, cacheAfter}
 use Rattle.traces.specs.RuleSets.{Reading}
 use Rattle.traces.specs.Realm.{Realm}
@@ -121,7 +120,7 @@ module _ {t : Tables} (w : Together t) (x : Effect) (f : EffectFits t x) {count 
 -- ---- a call that is refused
 
 -- "State, wire, cache and terms stay unchanged."
-pub refused-agrees : {R : Realm} {t : engines.Values HD} (ρ : Reading Event) → Agrees HD R t ρ → Agrees HD R t (record { log = (Nothing, []) ∷ ρ .log; terms = ρ .terms })
+pub refused-agrees : {R : Realm} {t : Values HD} (ρ : Reading Event) → Agrees HD R t ρ → Agrees HD R t (record { log = (Nothing, []) ∷ ρ .log; terms = ρ .terms })
 refused-agrees {t = t} ρ a =
     record {
       clock-is = a .clock-is;

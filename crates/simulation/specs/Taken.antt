@@ -13,8 +13,7 @@ use Rattle.sending.specs.Send.{sent, sendOf}
 use Rattle.exchange.specs.declared.call.Call.{Call}
 use Rattle.exchange.specs.declared.call.Call.the-variants.{Term}
 use Rattle.exchange.specs.Calls.{Sized}
-use Rattle.traces.specs.Engines as engines
-use Rattle.traces.specs.Engines.{Agrees}
+use Rattle.traces.specs.Engines.{Values, Agrees}
 use Rattle.traces.specs.Realm.{Realm}
 use Rattle.traces.specs.RuleSets.{Reading, read}
 use Rattle.kerberos.specs.Log.{Event, Act, idle}
@@ -39,7 +38,7 @@ use Rattle.simulation.specs.Terms.{withTerms, term-together, term-takes,
 use Rattle.simulation.specs.Values.{valuesOf}
 
 -- A call that is refused leaves the tables in agreement: "State, wire, cache and terms stay unchanged."
-pub refused-agrees : {R : Realm} {t : engines.Values HD} (ρ : Reading Event) (c : Call) → Agrees HD R t ρ → Agrees HD R t (read HD false c ρ)
+pub refused-agrees : {R : Realm} {t : Values HD} (ρ : Reading Event) (c : Call) → Agrees HD R t ρ → Agrees HD R t (read HD false c ρ)
 refused-agrees ρ c a = follows.refused-agrees ρ a
 
 -- Tables that hold together, a step that is taken, and what came of sending its messages:

@@ -7,7 +7,7 @@ use Rattle.rows.specs.Rows.{rowsOf}
 use Rattle.replay.specs.Cache.{entries}
 use Rattle.replay.specs.declared.entry.Entry as replay
 use Rattle.traces.specs.RuleSets.{Entry, entry}
-use Rattle.traces.specs.Engines as engines
+use Rattle.traces.specs.Engines.{Values}
 use Rattle.kerberos.specs.Reading.{HD}
 use Rattle.realm.specs.Tables.{Tables}
 
@@ -15,7 +15,7 @@ use Rattle.realm.specs.Tables.{Tables}
 abbrev pub logged : replay.Entry → Entry
 logged x = entry (x .b) (x .k) (x .ta)
 
-abbrev pub valuesOf : Tables → engines.Values HD
+abbrev pub valuesOf : Tables → Values HD
 valuesOf t =
     record {
       now = t .realm .clock;

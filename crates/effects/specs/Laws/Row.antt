@@ -6,7 +6,7 @@ use Prim.Native.Nat.{ℕ, _+_, _<_}
 use Rattle.exchange.specs.declared.run.Row.{Row}
 use Rattle.rows.specs.Runs.{setRun}
 use Rattle.decisions.specs.declared.Change.{Change}
-use Rattle.decisions.specs.declared.Change.the-variants.{Open, Set, Nothing}
+use Rattle.decisions.specs.declared.Change.the-variants.{Open, Set}
 use Rattle.effects.specs.Row.{ChangeFits, changed, runCount}
 
 module _ (count : ℕ) {x : Change} where
