@@ -12,7 +12,6 @@ use lib.Seq.{length-take-le, getD-take, getD-set-same, getD-set-other}
 use Rattle.drafts.specs.declared.Layer.{Layer}
 use Rattle.drafts.specs.declared.Layer.the-variants as layer
 use Rattle.drafts.specs.declared.Node.{Node}
-use Rattle.drafts.specs.declared.Node.the-variants as node
 use Rattle.messages.specs.declared.plan.Plan.{Plan}
 use Rattle.terms.specs.declared.table.Found.{Found}
 use Rattle.terms.specs.declared.table.Found.the-variants.{At, Nothing}

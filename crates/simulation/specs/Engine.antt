@@ -40,7 +40,9 @@ use Rattle.decisions.specs.declared.Verdict.the-variants as verdicts
 use Rattle.decisions.specs.Decision.{decision}
 use Rattle.decisions.specs.Laws.Verdict.{decision-takes}
 use Rattle.effects.specs.Apply.{applied}
-use Rattle.simulation.specs.Taken.{refused-agrees, step-taken, step-agrees, adding-taken, adding-agrees}
+use Rattle.simulation.specs.Follows.{refused-agrees}
+use Rattle.simulation.specs.Taken.{step-taken, step-agrees}
+use Rattle.simulation.specs.Terms.{term-takes, term-agrees}
 use Rattle.simulation.specs.Values.{logged, valuesOf}
 use Rattle.effects.specs.Kept.{ok}
 use Rattle.effects.specs.Call.{adding, withAdding, byVerdict, stepped, called}
@@ -71,7 +73,7 @@ pub record New (R : Realm) (t : Tables) : Type 0 where
 -- ---- a call that is refused
 
 kept : {R : Realm} {t : Tables} {ρ : Reading Event} (c : Call) → Follows R t ρ → Matches R t (read HD false c ρ)
-kept {ρ = ρ} c f = record { header-is = f .header-is; agrees = refused-agrees ρ c (f .agrees) }
+kept {ρ = ρ} c f = record { header-is = f .header-is; agrees = refused-agrees ρ (f .agrees) }
 
 -- ---- a step
 
@@ -103,7 +105,7 @@ module _ {R : Realm} {t : Tables} {ρ : Reading Event} (f : Follows R t ρ) (kin
       → addOf (t .realm .n) (t .terms) (t .realm .terms) (packed kind l r) ≡ record { answer = a; count = count; table = ts }
       → let o = withAdding t (adding (t .realm) (record { answer = a; count = count; table = ts })) in Matches R (o .tables) (read HD (accepts (o .answer)) (calls.Term kind l r) ρ)
   by-adding (terms.number i) count ts e =
-      record { header-is = f .header-is; agrees = adding-agrees (f .together) kind l r size e (f .header-is) ρ (f .agrees) }
+      record { header-is = f .header-is; agrees = term-agrees (f .together) kind l r size e ρ (f .agrees) (f .header-is) }
   by-adding (terms.refused k) count ts e =
       let same = subst (AddsTerm (t .realm .n) (t .terms) (t .realm .terms) (packed kind l r)) e (adds (f .together .terms-hold) (packed kind l r)) .is in
       rw (same .0, same .1) (kept (calls.Term kind l r) f)
@@ -111,7 +113,7 @@ module _ {R : Realm} {t : Tables} {ρ : Reading Event} (f : Follows R t ρ) (kin
   adding-takes : (a : terms.TermAnswer) (count : ℕ) (ts : List ℕ)
       → addOf (t .realm .n) (t .terms) (t .realm .terms) (packed kind l r) ≡ record { answer = a; count = count; table = ts }
       → accepts (withAdding t (adding (t .realm) (record { answer = a; count = count; table = ts })) .answer) ≡ true → Taken HD R ρ (calls.Term kind l r)
-  adding-takes (terms.number i) count ts e a = adding-taken (f .together) kind l r size e (f .header-is) ρ (f .agrees)
+  adding-takes (terms.number i) count ts e a = term-takes (f .together) kind l r size e ρ (f .agrees) (f .header-is)
   adding-takes (terms.refused k) count ts e a = no-true a
 
 -- ---- any call

@@ -24,7 +24,8 @@ use Rattle.decisions.specs.Decision.{decision}
 use Rattle.decisions.specs.Effects.{messagesOf}
 use Rattle.decisions.specs.Laws.Verdict.{decision-takes}
 use Rattle.effects.specs.Apply.{applied}
-use Rattle.simulation.specs.Taken.{step-together, adding-together}
+use Rattle.simulation.specs.Taken.{step-together}
+use Rattle.simulation.specs.Terms.{term-together}
 use Rattle.effects.specs.Call.{adding, withAdding, byVerdict, stepped, called}
 
 -- the terms of a step that is taken fit, so its messages are sent
@@ -42,7 +43,7 @@ module _ {t : Tables} (w : Together t) where
   by-adding : (kind l r : ℕ) → Sized (calls.Term kind l r) → (a : terms.TermAnswer) (count : ℕ) (ts : List ℕ)
       → addOf (t .realm .n) (t .terms) (t .realm .terms) (packed kind l r) ≡ record { answer = a; count = count; table = ts }
       → Together (withAdding t (adding (t .realm) (record { answer = a; count = count; table = ts })) .tables)
-  by-adding kind l r size (terms.number i) count ts e = adding-together w kind l r size e
+  by-adding kind l r size (terms.number i) count ts e = term-together w kind l r size e
   by-adding kind l r size (terms.refused k) count ts e =
       let same = subst (AddsTerm (t .realm .n) (t .terms) (t .realm .terms) (packed kind l r)) e (adds (w .terms-hold) (packed kind l r)) .is in
       rw (same .0, same .1) w

@@ -1,22 +1,16 @@
--- A call that is taken, or refused: what the definitions of the crates below decide and write is what the rules of the exchange take
--- and its reading holds.
+-- A step that is taken: what the definitions of the crates below decide and write is what the rules of the exchange take and its
+-- reading holds.
 -- Assumes nothing.
 use Prim.Native.Nat.{ℕ}
-use mathlib.Core.Bool.{true, false}
 use mathlib.Core.List.{List, _∷_}
 use mathlib.Core.Path.{_≡_, sym, subst}
-use Rattle.words.specs.Word.{packed}
-use Rattle.terms.specs.Add.{addOf}
-use Rattle.terms.specs.Outcome.{accept}
 use Rattle.messages.specs.Listed.{addAll}
 use Rattle.sending.specs.Send.{sent, sendOf}
-use Rattle.exchange.specs.declared.call.Call.{Call}
-use Rattle.exchange.specs.declared.call.Call.the-variants.{Term}
 use Rattle.exchange.specs.Calls.{Sized}
-use Rattle.traces.specs.Engines.{Values, Agrees}
+use Rattle.traces.specs.Engines.{Agrees}
 use Rattle.traces.specs.Realm.{Realm}
-use Rattle.traces.specs.RuleSets.{Reading, read}
-use Rattle.kerberos.specs.Log.{Event, Act, idle}
+use Rattle.traces.specs.RuleSets.{Reading}
+use Rattle.kerberos.specs.Log.{Event, Act}
 use Rattle.kerberos.specs.Messages.{parallel}
 use Rattle.kerberos.specs.Reading.{HD}
 use Rattle.kerberos.specs.Rules as rules
@@ -30,16 +24,10 @@ use Rattle.decisions.specs.Decision.{decided}
 use Rattle.decisions.specs.Effects.{messagesOf}
 use Rattle.decisions.specs.Laws.Fits.{took-clock}
 use Rattle.decisions.specs.Promises.{taken-as, taken-fits}
-use Rattle.simulation.specs.Follows as follows
 use Rattle.simulation.specs.Follows.{nextTables, effect-together, effect-agrees, effect-fits}
 use Rattle.simulation.specs.Mirrors.{took-mirrors}
 use Rattle.simulation.specs.Rules.{taken}
-use Rattle.simulation.specs.Terms.{withTerms, term-together, term-takes, term-agrees}
 use Rattle.simulation.specs.Values.{valuesOf}
-
--- A call that is refused leaves the tables in agreement: "State, wire, cache and terms stay unchanged."
-pub refused-agrees : {R : Realm} {t : Values HD} (ρ : Reading Event) (c : Call) → Agrees HD R t ρ → Agrees HD R t (read HD false c ρ)
-refused-agrees ρ c a = follows.refused-agrees ρ a
 
 -- Tables that hold together, a step that is taken, and what came of sending its messages:
 module _ {t : Tables} (w : Together t) (s : Step) {x : Effect} (d : decided t s ≡ Takes x) {count : ℕ} {ts ws : List ℕ}
@@ -65,16 +53,3 @@ module _ {t : Tables} (w : Together t) (s : Step) {x : Effect} (d : decided t s 
     pub step-agrees : Agrees HD R (valuesOf (nextTables t x count ts ws)) (record { log = step-act ∷ ρ .log; terms = addAll (step-act .1) (ρ .terms) })
     unfolding step-act
     step-agrees = effect-agrees w x (taken-fits t s w d) o is ρ a (taken-as t s w d .event) (took-mirrors (taken-as t s w d .took))
-
--- A term that is added, or was there before:
-module _ {t : Tables} (w : Together t) (kind x y : ℕ) (size : Sized (Term kind x y)) {i count : ℕ} {ts : List ℕ}
-    (o : addOf (t .realm .n) (t .terms) (t .realm .terms) (packed kind x y) ≡ accept i count ts) where
-  pub adding-together : Together (withTerms t count ts)
-  adding-together = term-together w kind x y size o
-
-  module _ {R : Realm} (is : header (t .realm) ≡ R) (ρ : Reading Event) (a : Agrees HD R (valuesOf t) ρ) where
-    pub adding-taken : rules.Takes parallel R (ρ .terms) (ρ .log) (Term kind x y) idle
-    adding-taken = term-takes w kind x y size o ρ a is
-
-    pub adding-agrees : Agrees HD R (valuesOf (withTerms t count ts)) (read HD true (Term kind x y) ρ)
-    adding-agrees = term-agrees w kind x y size o ρ a is

@@ -12,7 +12,6 @@ use Rattle.traces.specs.Realm.{Realm}
 use Rattle.kerberos.specs.Reading.{HD}
 use Rattle.records.specs.Calls.{Ending}
 use Rattle.lines.specs.Lines.{callLine, listing}
-use Rattle.realm.specs.declared.header.Realm as realm
 use Rattle.realm.specs.Tables.{Tables}
 use Rattle.effects.specs.Call.{called}
 use Rattle.simulation.specs.Engine.{New, engineOf}
