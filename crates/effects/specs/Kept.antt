@@ -1,18 +1,12 @@
 -- "A refusal is its number alone. State, wire, cache and terms stay unchanged", of every call.
 -- Assumes nothing.
-use Prim.Native.Nat.{ℕ, suc}
+use Prim.Native.Nat.{ℕ}
 use mathlib.Core.Path.{_≡_, refl, sym, ap, ap₂, _∙_}
-use mathlib.Core.Bool.{Bool, true, false, cond}
+use mathlib.Core.Bool.{true}
 use mathlib.Core.List.{List}
-use lib.Dec.{eqb}
-use lib.ListN.{set}
-use Rattle.terms.specs.declared.table.Found.{Found}
-use Rattle.terms.specs.declared.table.Found.the-variants.{At, Nothing}
-use Rattle.terms.specs.Add.{addBy, addOf}
+use Rattle.terms.specs.Add.{addOf, add-elim}
 use Rattle.terms.specs.Choice.{no-true}
-use Rattle.terms.specs.Outcome as terms
-use Rattle.terms.specs.Rules.{refusalOf}
-use Rattle.terms.specs.Table.{findOf}
+use Rattle.terms.specs.Outcome.{TermOutcome}
 use Rattle.words.specs.Word.{packed}
 use Rattle.exchange.specs.declared.call.Answer.{Answer}
 use Rattle.exchange.specs.declared.call.Answer.the-variants.{Refused}
@@ -38,24 +32,10 @@ ok names.Nobody = refl
 
 -- ---- TM
 
-module _ (ts : List ℕ) (count w : ℕ) {k : ℕ} where
-  by-room : (b : Bool) → let o = cond b (terms.refuse 20 count ts) (terms.accept count (suc count) (set ts count w)) in
-      numbered (o .answer) ≡ Refused k → (o .count ≡ count) × (o .table ≡ ts)
-  by-room true e = (refl, refl)
-  by-room false e = never _ refl e
-
-  by-found : (f : Found) → let o = addBy ts count w f in numbered (o .answer) ≡ Refused k → (o .count ≡ count) × (o .table ≡ ts)
-  by-found (At i) e = never _ refl e
-  by-found Nothing e = by-room (eqb count 512) e
-
-  by-rule : (b : Bool) (r : ℕ) → let o = cond b (addBy ts count w (findOf ts count w)) (terms.refuse r count ts) in
-      numbered (o .answer) ≡ Refused k → (o .count ≡ count) × (o .table ≡ ts)
-  by-rule true r e = by-found (findOf ts count w) e
-  by-rule false r e = (refl, refl)
-
-  add-kept : (n : ℕ) → let o = addOf n ts count w in numbered (o .answer) ≡ Refused k → (o .count ≡ count) × (o .table ≡ ts)
-  unfolding addOf
-  add-kept n e = by-rule (eqb (refusalOf n ts count w) 0) (refusalOf n ts count w) e
+add-kept : (n : ℕ) (ts : List ℕ) (count w : ℕ) {k : ℕ} → let o = addOf n ts count w in numbered (o .answer) ≡ Refused k → (o .count ≡ count) × (o .table ≡ ts)
+add-kept n ts count w {k} =
+    add-elim (λ (o : TermOutcome). numbered (o .answer) ≡ Refused k → (o .count ≡ count) × (o .table ≡ ts)) n ts count w (λ e. (refl, refl)) (λ e. (refl, refl))
+    (λ _ i _ e. never _ refl e) (λ _ _ _ e. never _ refl e)
 
 -- ---- any call
 
@@ -68,6 +48,6 @@ module _ (t : Tables) {k : ℕ} where
   pub refused-kept : (c : Call) → called t c .answer ≡ Refused k → called t c .tables ≡ t
   unfolding called stepped
   refused-kept (calls.Term kind l r) q =
-      let s = add-kept (t .terms) (t .realm .terms) (packed kind l r) (t .realm .n) q in
+      let s = add-kept (t .realm .n) (t .terms) (t .realm .terms) (packed kind l r) q in
       ap₂ (λ (count : ℕ) (ts : List ℕ). tables (withCount (t .realm) count) ts (t .runs) (t .wire) (t .cache)) (s .0) (s .1)
   refused-kept (calls.Step step run a b m time) q = by-verdict (decision t (record { step = step; run = run; a = a; b = b; m = m; t = time })) q

@@ -6,14 +6,10 @@ use mathlib.Core.List.{List, [], _∷_}
 use mathlib.Core.Path.{_≡_, refl}
 use borrow.Author.Tests.{eqb-false, eq-eqb}
 use lib.Dec.{ltb, eqb}
-use lib.ListN.{set}
-use Rattle.terms.specs.declared.table.Found.{Found}
-use Rattle.terms.specs.declared.table.Found.the-variants.{At, Nothing}
-use Rattle.terms.specs.Add.{addBy, addOf}
+use Rattle.terms.specs.Add.{addOf, add-elim}
 use Rattle.terms.specs.Choice.{no-true}
 use Rattle.terms.specs.Outcome as terms
 use Rattle.terms.specs.Rules.{spare, fieldsOk, refusalOf}
-use Rattle.terms.specs.Table.{findOf}
 use Rattle.words.specs.Word.{kindOf, rightOf, termOf, packed}
 use Rattle.exchange.specs.declared.call.Answer.the-variants.{Refused}
 use Rattle.exchange.specs.declared.call.Call.{Call}
@@ -55,22 +51,8 @@ of-word n ts at w = by (ltb 6 (kindOf w)) (eqb (spare (termOf w) (rightOf w)) 0)
     by false true true = refl
     by false true false = refl
 
-module _ (n : ℕ) (ts : List ℕ) (count w : ℕ) where
-  of-place : (f : Found) → ten (addBy ts count w f .answer) ≡ false
-  of-place (At i) = refl
-  of-place Nothing = by (eqb count 512)
-    where
-      by : (b : Bool) → ten (cond b (terms.refuse 20 count ts) (terms.accept count (suc count) (set ts count w)) .answer) ≡ false
-      by true = refl
-      by false = refl
-
-  of-term : ten (addOf n ts count w .answer) ≡ false
-  unfolding addOf
-  of-term = by (eqb (refusalOf n ts count w) 0)
-    where
-      by : (b : Bool) → ten (cond b (addBy ts count w (findOf ts count w)) (terms.refuse (refusalOf n ts count w) count ts) .answer) ≡ false
-      by true = of-place (findOf ts count w)
-      by false = of-word n ts count w
+of-term : (n : ℕ) (ts : List ℕ) (count w : ℕ) → ten (addOf n ts count w .answer) ≡ false
+of-term n ts count w = add-elim (λ (o : terms.TermOutcome). ten (o .answer) ≡ false) n ts count w (of-word n ts count w) refl (λ _ _ _. refl) (λ _ _ _. refl)
 
 -- ---- ST
 

@@ -3,27 +3,22 @@
 -- Assumes nothing.
 use Prim.Native.Nat.{ℕ, zero, suc, _+_, _^_, _<_, _≤_}
 use mathlib.Core.Path.{_≡_, refl, sym, ap, ap₂, _∙_, subst}
-use mathlib.Core.Bool.{Bool, true, false, cond}
+use mathlib.Core.Bool.{true}
 use mathlib.Core.List.{List, [], _∷_, _++_, List·Memᴰ, List·Memᴰ·not-nil}
 use mathlib.Core.Logic.{_↔_, _⊎_, inl, ⊎-elim}
 use mathlib.Core.Option.{some}
 use native.Mathlib.Decide.{ℕ-discrete}
 use native.Mathlib.Omega.{arith}
-use borrow.Author.Tests.{eqb-true}
-use lib.Dec.{eqb}
-use lib.ListN.{length, getD, set}
+use lib.ListN.{length, getD}
 use Rattle.words.specs.Word as words
 use Rattle.words.specs.Word.{packed, termBy}
-use Rattle.terms.specs.declared.table.Found.{Found}
-use Rattle.terms.specs.declared.table.Found.the-variants as found
-use Rattle.terms.specs.Add.{addOf, addBy, Extends, AddedIs, adds}
+use Rattle.terms.specs.Add.{addOf, Extends, AddedIs, adds, add-elim}
 use Rattle.terms.specs.Meaning.{keyOf, messageOf, messageAt, message-at, messages-same, key-at}
 use Rattle.terms.specs.Message.{Message, key}
 use Rattle.terms.specs.Number.{messages-once}
-use Rattle.terms.specs.Outcome.{TermAnswer, number, refused, TermOutcome, accept, refuse}
+use Rattle.terms.specs.Outcome.{TermAnswer, number, refused, TermOutcome, accept}
 use Rattle.terms.specs.Rules.{isKey, spare, refusalOf, Fields, passed, fields}
 use Rattle.terms.specs.Rules as rules
-use Rattle.terms.specs.Table.{findOf}
 use Rattle.terms.specs.Valid.{Valid}
 use Rattle.messages.specs.Listed.{termAt, insert, insert-present, insert-new}
 use Rattle.messages.specs.Meanings.{meanings, meanings-length, meanings-at, at-meanings, meanings-same}
@@ -63,23 +58,10 @@ abbrev Accepted : (n : ℕ) (ts : List ℕ) (count w : ℕ) → TermAnswer → �
 Accepted n ts count w (number i) count′ = (refusalOf n ts count w ≡ 0) × (count′ ≤ suc count) × (count < count′ → i ≡ count)
 Accepted n ts count w (refused r) count′ = Unit {0}
 
-module _ (n : ℕ) (ts : List ℕ) (count w : ℕ) where
-  accepted-by : refusalOf n ts count w ≡ 0 → (f : Found) → let o = addBy ts count w f in Accepted n ts count w (o .answer) (o .count)
-  accepted-by r (found.At i) = (r, omega arith, λ h. absurd (omega arith))
-  accepted-by r found.Nothing = by-room (eqb count 512)
-    where
-      by-room : (b : Bool) → let o = cond b (refuse 20 count ts) (accept count (suc count) (set ts count w)) in Accepted n ts count w (o .answer) (o .count)
-      by-room true = tt
-      by-room false = (r, omega arith, λ h. refl)
-
-  accepted : let o = addOf n ts count w in Accepted n ts count w (o .answer) (o .count)
-  unfolding addOf
-  accepted = by-rule (eqb (refusalOf n ts count w) 0) refl
-    where
-      by-rule : (b : Bool) → eqb (refusalOf n ts count w) 0 ≡ b
-          → let o = cond b (addBy ts count w (findOf ts count w)) (refuse (refusalOf n ts count w) count ts) in Accepted n ts count w (o .answer) (o .count)
-      by-rule true q = accepted-by (eqb-true (refusalOf n ts count w) 0 q) (findOf ts count w)
-      by-rule false q = tt
+accepted : (n : ℕ) (ts : List ℕ) (count w : ℕ) → let o = addOf n ts count w in Accepted n ts count w (o .answer) (o .count)
+accepted n ts count w =
+    add-elim (λ (o : TermOutcome). Accepted n ts count w (o .answer) (o .count)) n ts count w tt tt
+    (λ r i _. (r, omega arith, λ h. absurd (omega arith))) (λ r _ _. (r, omega arith, λ h. refl))
 
 -- ---- the message of a kind and its operands
 

@@ -2,7 +2,7 @@
 -- nothing"; refusal 20: "the new terms do not all fit"): the answer, and the table after it, every place of it.
 -- Assumes nothing.
 use mathlib.Core.Path.{_≡_, refl, sym, ap, _∙_}
-use mathlib.Core.Bool.{Bool, true, false, cond}
+use mathlib.Core.Bool.{cond}
 use mathlib.Core.List.{List}
 use Prim.Native.Nat.{ℕ, suc, _<_, _≤_}
 use native.Mathlib.Omega.{arith}
@@ -14,6 +14,7 @@ use Rattle.terms.specs.declared.table.Added.{Added}
 use Rattle.terms.specs.declared.table.Added.the-variants.{Old, New, Refused}
 use Rattle.terms.specs.declared.table.Found.{Found}
 use Rattle.terms.specs.declared.table.Found.the-variants.{At, Nothing}
+use Rattle.terms.specs.Choice.{cond-elim}
 use Rattle.terms.specs.Outcome.{TermAnswer, number, refused, TermOutcome, accept, refuse}
 use Rattle.terms.specs.Rules.{refusalOf, refusal-same, Agree}
 use Rattle.terms.specs.Table.{findOf, found-at}
@@ -36,6 +37,20 @@ addBy ts count w Nothing = cond (eqb count 512) (refuse 20 count ts) (accept cou
 unfoldable pub addOf : (n : ℕ) (ts : List ℕ) (count w : ℕ) → TermOutcome
 addOf n ts count w =
     cond (eqb (refusalOf n ts count w) 0) (addBy ts count w (findOf ts count w)) (refuse (refusalOf n ts count w) count ts)
+
+-- what holds of each way out holds of adding
+pub add-elim : (P : TermOutcome → Type 0) (n : ℕ) (ts : List ℕ) (count w : ℕ) → P (refuse (refusalOf n ts count w) count ts) → P (refuse 20 count ts)
+    → (refusalOf n ts count w ≡ 0 → (i : ℕ) → findOf ts count w ≡ At i → P (accept i count ts))
+    → (refusalOf n ts count w ≡ 0 → findOf ts count w ≡ Nothing → (count ≡ 512 → ⊥) → P (accept count (suc count) (set ts count w)))
+    → P (addOf n ts count w)
+unfolding addOf
+add-elim P n ts count w barred full old new =
+    cond-elim P (eqb (refusalOf n ts count w) 0) (addBy ts count w (findOf ts count w)) (refuse (refusalOf n ts count w) count ts)
+    (λ q. by (eqb-true (refusalOf n ts count w) 0 q) (findOf ts count w) refl) (λ _. barred)
+  where
+    by : refusalOf n ts count w ≡ 0 → (f : Found) → findOf ts count w ≡ f → P (addBy ts count w f)
+    by r (At i) e = old r i e
+    by r Nothing e = cond-elim P (eqb count 512) (refuse 20 count ts) (accept count (suc count) (set ts count w)) (λ _. full) (λ q. new r e (eqb-false count 512 q))
 
 -- ---- a longer table: the terms before stay, and the rules are kept
 
@@ -83,28 +98,18 @@ module _ {n : ℕ} {ts : List ℕ} {count : ℕ} (v : Valid n ts count) (w : ℕ
   kept : (r : ℕ) → AddsTerm n ts count w (refuse r count ts)
   kept r = record { is = (refl, refl); valid = v }
 
-  by-found : refusalOf n ts count w ≡ 0 → (f : Found) → findOf ts count w ≡ f → AddsTerm n ts count w (addBy ts count w f)
-  by-found r (At i) e =
-      let p = found-at ts count w e in
-      record { is = (p .0, p .1, extends-refl (v .terms)); valid = v }
-  by-found r Nothing e = by-room (eqb count 512) refl
+  pub adds : AddsTerm n ts count w (addOf n ts count w)
+  adds = add-elim (AddsTerm n ts count w) n ts count w (kept (refusalOf n ts count w)) (kept 20) old new
     where
-      by-room : (b : Bool) → eqb count 512 ≡ b → AddsTerm n ts count w (cond b (refuse 20 count ts) (accept count (suc count) (set ts count w)))
-      by-room true q = kept 20
-      by-room false q =
-          let room : count < 512 = omega (arith, v .room, eqb-false count 512 q) in
+      old : refusalOf n ts count w ≡ 0 → (i : ℕ) → findOf ts count w ≡ At i → AddsTerm n ts count w (accept i count ts)
+      old r i e = let p = found-at ts count w e in record { is = (p .0, p .1, extends-refl (v .terms)); valid = v }
+
+      new : refusalOf n ts count w ≡ 0 → findOf ts count w ≡ Nothing → (count ≡ 512 → ⊥) → AddsTerm n ts count w (accept count (suc count) (set ts count w))
+      new r e ne =
+          let room : count < 512 = omega (arith, v .room, ne) in
           let here : getD (set ts count w) count 0 ≡ w = getD-set-same ts count w 0 (omega (arith, v .size)) in
           let x = extends-by (v .terms) (set ts count w) w (λ k h. sym (getD-set-other ts count k w 0 (λ z. omega arith))) here r e in
           record { is = (omega arith, here, x); valid = record { size = length-set ts count w ∙ v .size; room = room; terms = x .terms } }
-
-  pub adds : AddsTerm n ts count w (addOf n ts count w)
-  unfolding addOf
-  adds = by-rule (eqb (refusalOf n ts count w) 0) refl
-    where
-      by-rule : (b : Bool) → eqb (refusalOf n ts count w) 0 ≡ b
-          → AddsTerm n ts count w (cond b (addBy ts count w (findOf ts count w)) (refuse (refusalOf n ts count w) count ts))
-      by-rule true q = by-found (eqb-true (refusalOf n ts count w) 0 q) (findOf ts count w) refl
-      by-rule false q = kept (refusalOf n ts count w)
 
 -- ---- by the way out
 
