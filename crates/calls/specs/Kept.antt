@@ -25,6 +25,7 @@ use Rattle.effects.specs.Promises as effects
 use Rattle.simulation.specs.Engine.{Follows}
 use Rattle.simulation.specs.Exact.{Takable, toldOf}
 use Rattle.simulation.specs.Promises as simulation
+use Rattle.simulation.specs.Underivable.{Barred}
 use Rattle.simulation.specs.Unread.{Alike}
 use Rattle.simulation.specs.Values.{valuesOf}
 use Rattle.calls.specs.Lent.{lentCall}
@@ -70,6 +71,11 @@ module _ {R : Realm} {t : Tables} {ρ : Reading Event} (f : Follows R t ρ) wher
   pub step-answer : (step r a b m now : ℕ) {act : Act} → Takes parallel R (ρ .terms) (ρ .log) (Step step r a b m now) act
       → lentCall t (Step step r a b m now) .answer ≡ toldOf (act .0)
   step-answer step r a b m now k = same-answer t (Step step r a b m now) (f .together) ∙ simulation.step-answer R t ρ f step r a b m now k
+
+  pub underivable-exact : (step r a b m now : ℕ) → let answer = lentCall t (Step step r a b m now) .answer in (answer ≡ Refused 15) ↔ Barred R ρ step m answer
+  underivable-exact step r a b m now =
+      subst (λ (x : Answer). (x ≡ Refused 15) ↔ Barred R ρ step m x) (sym (same-answer t (Step step r a b m now) (f .together)))
+      (simulation.underivable-exact R t ρ f step r a b m now)
 
 -- ---- what is not read
 

@@ -25,6 +25,7 @@ use Rattle.realm.specs.Opening.{header, openingOf}
 use Rattle.realm.specs.Tables.{Tables, Together}
 use Rattle.simulation.specs.Engine.{New, opened-new}
 use Rattle.simulation.specs.Exact.{Takable, toldOf}
+use Rattle.simulation.specs.Underivable.{Barred}
 use Rattle.simulation.specs.Unread.{Alike}
 use Rattle.simulation.specs.Values.{valuesOf}
 use Rattle.calls.specs.Kept as kept
@@ -70,6 +71,12 @@ module _ (n flags ls la : ℕ) (ls-fits : ls < 2 ^ 32) (la-fits : la < 2 ^ 32) (
   pub public-answer : (step r a b m now : ℕ) {act : Act} → let ρ = reading HD (lentHistory t cs) in
       Takes parallel (header h) (ρ .terms) (ρ .log) (Step step r a b m now) act → lentCall (lentAfter t cs) (Step step r a b m now) .answer ≡ toldOf (act .0)
   public-answer step r a b m now k = kept.step-answer (lent-follows (header h) t new cs sized) step r a b m now k
+
+  -- 15 is given exactly where the table of refusals has it for the step, the intruder cannot deliver m, and no refusal before it was
+  -- given.
+  pub public-underivable : (step r a b m now : ℕ) → let answer = lentCall (lentAfter t cs) (Step step r a b m now) .answer in
+      (answer ≡ Refused 15) ↔ Barred (header h) (reading HD (lentHistory t cs)) step m answer
+  public-underivable step r a b m now = kept.underivable-exact (lent-follows (header h) t new cs sized) step r a b m now
 
   -- Its tables never meet 10,
   pub public-never-10 : (c : Call) → ¬ (lentCall (lentAfter t cs) c .answer ≡ Refused 10)

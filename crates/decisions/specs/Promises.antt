@@ -1,10 +1,11 @@
 -- What a step comes to, before anything is written. `Effects` has what each row of the step table writes, `Decision` the whole of it:
--- the paper's two tables of refusals, in their order, and the step table. Below: which refusals a step can have, and that it is
--- taken exactly where it has met what its row asks for.
+-- the paper's two tables of refusals, in their order, and the step table. Below: which refusals a step can have, when it has 15, and
+-- that it is taken exactly where it has met what its row asks for.
 -- Assumes nothing.
 use Prim.Native.Nat.{ℕ}
 use mathlib.Core.Path.{_≡_, subst}
 use mathlib.Core.Logic.{_↔_}
+use Rattle.terms.specs.Message.{Message}
 use Rattle.traces.specs.Lists.{_∈_}
 use Rattle.realm.specs.declared.input.Step.{Step}
 use Rattle.realm.specs.Tables.{Tables, Together}
@@ -14,13 +15,19 @@ use Rattle.decisions.specs.declared.Verdict.the-variants.{Takes, Refused
 use Rattle.decisions.specs.Decision.{decided, decision}
 use Rattle.decisions.specs.Laws.Exact.{took-decided}
 use Rattle.decisions.specs.Laws.Fits.{EffectFits, took-fits}
-use Rattle.decisions.specs.Laws.Refusals.{allOf, Tells, tells}
-use Rattle.decisions.specs.Laws.Took.{TookAs}
+use Rattle.decisions.specs.Laws.Refusals.{refusalsOf, allOf, askedFor, Tells, tells}
+use Rattle.decisions.specs.Laws.Took.{Brings, TookAs}
+use Rattle.decisions.specs.Laws.Underivable.{Reached, told, told-back}
 use Rattle.decisions.specs.Laws.Verdict as verdicts
 
 -- a step has the refusals that the tables name for it, 4 to 6 and 20, and no other
 pub step-refusals : (t : Tables) (s : Step) {k : ℕ} → decision t s ≡ Refused k → k ∈ allOf (s .step)
-step-refusals t s e = subst (Tells (allOf (s .step))) e (tells t s)
+step-refusals t s e = subst (Tells (allOf (s .step)) (askedFor t s)) e (tells t s) .0
+
+-- "15 | the intruder cannot build m | 3 to 6, 10": given exactly where the step can have it, he cannot, and nothing before it applies
+pub underivable-exact : (t : Tables) → Together t → (s : Step)
+    → (decision t s ≡ Refused 15) ↔ ((15 ∈ refusalsOf (s .step)) × ((x : Message) → ¬ (Brings t (s .m) x)) × Reached (decision t s))
+underivable-exact t w s = (told t w s, λ p. told-back t w s (p .0) (p .1) (p .2))
 
 -- Tables that hold together, and a step that is taken but for 20:
 module _ (t : Tables) (s : Step) (w : Together t) {x : Effect} (d : decided t s ≡ Takes x) where

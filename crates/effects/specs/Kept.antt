@@ -4,6 +4,7 @@ use Prim.Native.Nat.{ℕ}
 use mathlib.Core.Path.{_≡_, refl, sym, ap, ap₂, _∙_}
 use mathlib.Core.Bool.{true}
 use mathlib.Core.List.{List}
+use mathlib.Core.Logic.{_↔_}
 use Rattle.terms.specs.Add.{addOf, add-elim}
 use Rattle.terms.specs.Choice.{no-true}
 use Rattle.terms.specs.Outcome.{TermOutcome}
@@ -13,6 +14,7 @@ use Rattle.exchange.specs.declared.call.Answer.the-variants.{Refused}
 use Rattle.exchange.specs.declared.call.Call.{Call}
 use Rattle.exchange.specs.declared.call.Call.the-variants as calls
 use Rattle.exchange.specs.Calls.{accepts}
+use Rattle.realm.specs.declared.input.Step.{Step}
 use Rattle.realm.specs.Tables.{Tables, tables}
 use Rattle.decisions.specs.declared.Names.{Names}
 use Rattle.decisions.specs.declared.Names.the-variants as names
@@ -44,6 +46,16 @@ module _ (t : Tables) {k : ℕ} where
   unfolding applied
   by-verdict (verdicts.Takes x) q = never (answerOf (x .names)) (ok (x .names)) q
   by-verdict (verdicts.Refused n) q = refl
+
+  -- a step's refusal is its decision's
+  same-number : (v : Verdict) → byVerdict t v .answer ≡ Refused k → v ≡ verdicts.Refused k
+  unfolding applied
+  same-number (verdicts.Takes x) q = never (answerOf (x .names)) (ok (x .names)) q
+  same-number (verdicts.Refused n) q = cc
+
+  pub step-refused : (s : Step) → (stepped t s .answer ≡ Refused k) ↔ (decision t s ≡ verdicts.Refused k)
+  unfolding stepped
+  step-refused s = (same-number (decision t s), ap (λ (v : Verdict). byVerdict t v .answer))
 
   pub refused-kept : (c : Call) → called t c .answer ≡ Refused k → called t c .tables ≡ t
   unfolding called stepped

@@ -17,14 +17,10 @@ use Rattle.exchange.specs.declared.call.Call.the-variants as calls
 use Rattle.traces.specs.Lists.{_∈_, here, there}
 use Rattle.realm.specs.declared.input.Step.{Step}
 use Rattle.realm.specs.Tables.{Tables}
-use Rattle.decisions.specs.declared.Verdict.{Verdict}
-use Rattle.decisions.specs.declared.Verdict.the-variants as verdicts
-use Rattle.decisions.specs.Decision.{decision}
 use Rattle.decisions.specs.Laws.Refusals.{allOf}
 use Rattle.decisions.specs.Promises.{step-refusals}
-use Rattle.effects.specs.Apply.{answerOf, applied}
-use Rattle.effects.specs.Call.{numbered, byVerdict, stepped, called}
-use Rattle.effects.specs.Kept.{never, ok}
+use Rattle.effects.specs.Call.{numbered, called}
+use Rattle.effects.specs.Kept.{never, step-refused}
 
 -- ---- TM
 
@@ -80,14 +76,9 @@ no-ten (suc (suc (suc (suc (suc (suc (suc (suc (suc zero))))))))) = refl
 no-ten (suc (suc (suc (suc (suc (suc (suc (suc (suc (suc zero)))))))))) = refl
 no-ten (suc (suc (suc (suc (suc (suc (suc (suc (suc (suc (suc step))))))))))) = refl
 
-by-verdict : (t : Tables) (s : Step) (v : Verdict) → decision t s ≡ v → ¬ (byVerdict t v .answer ≡ Refused 10)
-unfolding applied
-by-verdict t s (verdicts.Takes x) d q = never (answerOf (x .names)) (ok (x .names)) q
-by-verdict t s (verdicts.Refused k) d q = absent 10 (allOf (s .step)) (no-ten (s .step)) (rw (same q) at (step-refusals t s d))
-
 pub never-10 : (t : Tables) (c : Call) → ¬ (called t c .answer ≡ Refused 10)
-unfolding called stepped
+unfolding called
 never-10 t (calls.Term kind l r) q = told (addOf (t .realm .n) (t .terms) (t .realm .terms) (packed kind l r) .answer) (of-term (t .realm .n) (t .terms) (t .realm .terms) (packed kind l r)) q
 never-10 t (calls.Step step run a b m time) q =
     let s : Step = record { step = step; run = run; a = a; b = b; m = m; t = time } in
-    by-verdict t s (decision t s) refl q
+    absent 10 (allOf step) (no-ten step) (step-refusals t s (step-refused t s .0 q))

@@ -3,14 +3,18 @@
 -- with it.
 -- Assumes nothing.
 use Prim.Native.Nat.{ℕ}
+use mathlib.Core.Logic.{_↔_}
 use mathlib.Core.Path.{_≡_, refl}
 use Rattle.exchange.specs.declared.call.Answer.the-variants.{Refused}
 use Rattle.exchange.specs.declared.call.Call.{Call}
 use Rattle.decisions.specs.declared.Effect.{Effect}
+use Rattle.decisions.specs.declared.Verdict.the-variants as verdicts
+use Rattle.decisions.specs.Decision.{decision}
+use Rattle.realm.specs.declared.input.Step.{Step}
 use Rattle.realm.specs.Opening.{header}
 use Rattle.realm.specs.Tables.{Tables}
 use Rattle.effects.specs.Apply.{applied}
-use Rattle.effects.specs.Call.{called}
+use Rattle.effects.specs.Call.{stepped, called}
 use Rattle.effects.specs.Kept as kept
 use Rattle.effects.specs.Numbers as numbers
 
@@ -22,6 +26,10 @@ header-stays t x = refl
 -- a call that is refused leaves the realm and every place of every table as they were
 pub refused-kept : (t : Tables) (c : Call) {k : ℕ} → called t c .answer ≡ Refused k → called t c .tables ≡ t
 refused-kept t c e = kept.refused-kept t c e
+
+-- a step's refusal is the number that was decided, and the other way round
+pub step-refused : (t : Tables) (s : Step) {k : ℕ} → (stepped t s .answer ≡ Refused k) ↔ (decision t s ≡ verdicts.Refused k)
+step-refused t s = kept.step-refused t s
 
 -- "10 is met only by a library caller": no call answers it, but for the check
 pub never-10 : (t : Tables) (c : Call) → ¬ (called t c .answer ≡ Refused 10)

@@ -4,14 +4,8 @@ use conditions::REFUSE_TICKET;
 use conditions::admit;
 use conditions::can_deliver;
 use conditions::ticket_lives;
-use decisions::Keeping;
-use decisions::Sends;
 use decisions::Verdict;
-use decisions::advance;
-use decisions::open_run;
-use exchange::run::Role;
 use exchange::run::Row;
-use exchange::run::Stage;
 use forms::Confirmation;
 use forms::Delivery;
 use forms::Reply;
@@ -23,6 +17,10 @@ use forms::open_request;
 use realm::header::Realm;
 use replay::entry::Entry;
 use rows::MAX_RUNS;
+use verdicts::accepted;
+use verdicts::authenticated;
+use verdicts::finished;
+use verdicts::issued;
 ghost use mathlib.Core.Path.{_≡_};
 ghost use Prim.Native.Nat.{_≤_};
 ghost use Rattle.conditions.specs.Conditions.{Askable};
@@ -52,27 +50,9 @@ pub fn issue(h: Realm, terms: &[u64], wire: &[u64], m: u16) -> Verdict
         return Verdict::Refused(REFUSE_UNDERIVABLE);
     }
     let r = h.runs as u8;
-    let key = r as u16;
     let initiator = a as u8;
     let responder = b as u8;
-    let sends = Sends::Issue {
-        k: key,
-        a,
-        b,
-        ts: h.clock,
-        n,
-    };
-    open_run(
-        h.clock,
-        Role::Server,
-        Stage::Done,
-        r,
-        initiator,
-        responder,
-        r,
-        h.clock,
-        sends,
-    )
+    issued(h.clock, r, initiator, responder, n)
 }
 
 // Step 4: the initiator takes the server's reply to its own request.
@@ -93,25 +73,7 @@ pub fn authenticate(h: Realm, terms: &[u64], wire: &[u64], run: u8, own: Row, m:
         return Verdict::Refused(REFUSE_TICKET);
     }
     let key = k as u8;
-    let initiator = own.a as u16;
-    let sends = Sends::Authenticator {
-        a: initiator,
-        ta: h.clock,
-        k,
-    };
-    advance(
-        h.clock,
-        Role::Initiator,
-        Stage::Authenticated,
-        run,
-        own.a,
-        own.b,
-        key,
-        ts,
-        h.clock,
-        Keeping::Same,
-        sends,
-    )
+    authenticated(h.clock, run, own, key, ts)
 }
 
 // Step 5: the responder takes a ticket and an authenticator.
@@ -141,26 +103,7 @@ pub fn accept(
         return Verdict::Refused(number);
     }
     let key = k as u8;
-    let responder = own.b as u16;
-    let keeping = Keeping::Remember(Entry {
-        b: responder,
-        k,
-        ta,
-    });
-    let sends = Sends::Confirmation { ta, k };
-    advance(
-        h.clock,
-        Role::Responder,
-        Stage::Done,
-        run,
-        own.a,
-        own.b,
-        key,
-        ts,
-        ta,
-        keeping,
-        sends,
-    )
+    accepted(h.clock, run, own, key, ts, ta)
 }
 
 // Step 6: the initiator takes the responder's confirmation of its own values.
@@ -180,17 +123,5 @@ pub fn finish(h: Realm, terms: &[u64], wire: &[u64], run: u8, own: Row, m: u16) 
     if !ticket_lives(h, own.ts) {
         return Verdict::Refused(REFUSE_TICKET);
     }
-    advance(
-        h.clock,
-        Role::Initiator,
-        Stage::Done,
-        run,
-        own.a,
-        own.b,
-        own.k,
-        own.ts,
-        own.ta,
-        Keeping::Same,
-        Sends::Nothing,
-    )
+    finished(h.clock, run, own)
 }

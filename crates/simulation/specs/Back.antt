@@ -115,7 +115,7 @@ module _ {t : Tables} where
 -- ---- what is taken
 
 module _ (t : Tables) (ρ : Reading Event) (fits : Together t) (g : Agrees HD (header (t .realm)) (valuesOf t) ρ) where
-  brings : {m : ℕ} {x : Message} → Delivers (header (t .realm)) (ρ .terms) (ρ .log) m x → Brings t m x
+  pub brings : {m : ℕ} {x : Message} → Delivers (header (t .realm)) (ρ .terms) (ρ .log) m x → Brings t m x
   brings {m} {x} d =
       let p = at-meanings (t .terms) (t .realm .terms) m x (ap (λ (ms : List Message). termAt ms m) (g .terms-are) ∙ d .form) in
       record { below = p .0; is = p .1; derivable = monotone (λ y k. g .wire-is y .1 k) (d .derivable) }

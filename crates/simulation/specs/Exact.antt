@@ -137,7 +137,7 @@ module _ {R : Realm} (t : Tables) (ρ : Reading Event) (f : Follows R t ρ) wher
   there : (c : Call) → Sized c → accepts (called t c .answer) ≡ true → Takable R ρ c
   there c size e = record { act = actOf parallel c ρ; takes = call-takes t ρ c size f e }
 
-  own : Agrees HD (header (t .realm)) (valuesOf t) ρ
+  pub own : Agrees HD (header (t .realm)) (valuesOf t) ρ
   own = subst (λ (R : Realm). Agrees HD R (valuesOf t) ρ) (sym (f .header-is)) (f .agrees)
 
   by-own : (c : Call) {act : Act} → Takes parallel R (ρ .terms) (ρ .log) c act → Takes parallel (header (t .realm)) (ρ .terms) (ρ .log) c act

@@ -17,4 +17,5 @@ pub mod Engine
 pub mod Idle
 pub mod Unread
 pub mod Exact
+pub mod Underivable
 pub mod Cases

@@ -2,8 +2,8 @@
 -- equations with it. Reading order: Values (tables as the reading has them), Engine (a list of calls from a new realm), Cases (the
 -- paper's lettered cases). How it is shown: Rules (what a step that is taken has met is what the rules ask for), Mirrors (an effect
 -- beside an event), Follows (of writing an effect, over Runs, Entries and Wire), Terms (of adding a term), Taken (of a step) and
--- Kept (of a call). The way back, from the rules to the tables, is Back and TermsBack; both ways together are Exact. Unread is about
--- places past the counts.
+-- Kept (of a call). The way back, from the rules to the tables, is Back and TermsBack; both ways together are Exact, and of refusal 15
+-- Underivable. Unread is about places past the counts.
 -- Assumes nothing.
 use Prim.Native.Nat.{ℕ}
 use mathlib.Core.Path.{_≡_, subst}
@@ -12,6 +12,7 @@ use mathlib.Core.List.{List, map}
 use mathlib.Core.Logic.{_↔_}
 use lib.ListN.{length, replicate}
 use Rattle.terms.specs.Message.{session, key}
+use Rattle.exchange.specs.declared.call.Answer.the-variants.{Refused}
 use Rattle.exchange.specs.declared.call.Call.{Call}
 use Rattle.exchange.specs.declared.call.Call.the-variants.{Step}
 use Rattle.exchange.specs.Calls.{accepts, Sized, AllSized}
@@ -33,6 +34,8 @@ use Rattle.simulation.specs.Engine.{New, Follows, engineOf}
 use Rattle.simulation.specs.Exact as exact
 use Rattle.simulation.specs.Exact.{Takable, toldOf}
 use Rattle.simulation.specs.Idle as idle
+use Rattle.simulation.specs.Underivable as underivable
+use Rattle.simulation.specs.Underivable.{Barred}
 use Rattle.simulation.specs.Unread.{Alike, answers-alike, tables-alike}
 use Rattle.simulation.specs.Values.{valuesOf}
 
@@ -54,6 +57,11 @@ accepted-exact R t ρ f c size = exact.accepted-exact t ρ f c size
 pub step-answer : (R : Realm) (t : Tables) (ρ : Reading Event) → Follows R t ρ → (step r a b m now : ℕ) {act : Act}
     → Takes parallel R (ρ .terms) (ρ .log) (Step step r a b m now) act → called t (Step step r a b m now) .answer ≡ toldOf (act .0)
 step-answer R t ρ f step r a b m now k = exact.step-answer t ρ f step r a b m now k
+
+-- 15 is given exactly where the step can have it, nothing before it applies, and the intruder cannot deliver m.
+pub underivable-exact : (R : Realm) (t : Tables) (ρ : Reading Event) → Follows R t ρ → (step r a b m now : ℕ)
+    → let answer = called t (Step step r a b m now) .answer in (answer ≡ Refused 15) ↔ Barred R ρ step m answer
+underivable-exact R t ρ f step r a b m now = underivable.underivable-exact t ρ f step r a b m now
 
 -- "10 is met only by a library caller": on tables that hold together the checked call is the call.
 pub ten-unmet : (t : Tables) (c : Call) → Together t → checked t c ≡ called t c

@@ -98,7 +98,7 @@ module _ (t : Tables) (ρ : Reading Event) (fits : Together t) (g : Agrees HD (h
   pub next-is : t .realm .runs ≡ next (ρ .log)
   next-is = sym (rows-length (t .runs) (t .realm .runs)) ∙ ap length (g .runs-are) ∙ length-map (runs (ρ .log)) stored
 
-  delivers : {m : ℕ} {x : Message} → Brings t m x → Delivers (header (t .realm)) (ρ .terms) (ρ .log) m x
+  pub delivers : {m : ℕ} {x : Message} → Brings t m x → Delivers (header (t .realm)) (ρ .terms) (ρ .log) m x
   delivers {m} b =
       record {
         form = ap (λ (ms : List Message). termAt ms m) (sym (g .terms-are)) ∙ meanings-at (t .terms) (t .realm .terms) m (b .below) ∙ ap some (b .is);

@@ -5,11 +5,8 @@ use decisions::Keeping;
 use decisions::Names;
 use decisions::Sends;
 use decisions::Verdict;
-use decisions::open_run;
-use decisions::rest;
 use exchange::need::fits;
 use exchange::run::Role;
-use exchange::run::Stage;
 use realm::header::Realm;
 use realm::input::Step;
 use realm::input::input_refusal;
@@ -22,6 +19,8 @@ use receiving::issue;
 use replay::entry::Entry;
 use rows::MAX_RUNS;
 use rows::run_at;
+use verdicts::opened;
+use verdicts::rest;
 ghost use mathlib.Core.Path.{_≡_};
 ghost use Rattle.conditions.specs.Conditions.{Askable};
 ghost use Rattle.decisions.specs.Decision.{opensRun, ticks, queries, stepOf, decided};
@@ -40,7 +39,7 @@ fn begin(h: Realm, role: Role, a: u8, b: u8, sends: Sends) -> Verdict
         return Verdict::Refused(REFUSE_RUNS_FULL);
     }
     let r = h.runs as u8;
-    open_run(h.clock, role, Stage::Opened, r, a, b, 0, 0, sends)
+    opened(h.clock, role, r, a, b, sends)
 }
 
 // Step 7.

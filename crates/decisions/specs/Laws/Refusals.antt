@@ -1,7 +1,8 @@
 -- The refusals that a step can have are those of the last column of the table of refusals (document 01, "What turns a record away,
--- from the state"), beside 4 to 6 of its fields and 20.
+-- from the state"), beside 4 to 6 of its fields and 20; and 15 parts them: it is given where the intruder cannot derive the step's
+-- message, and what comes after it only where he can.
 -- Assumes nothing.
-use Prim.Native.Nat.{ℕ, zero, suc, _≤_}
+use Prim.Native.Nat.{ℕ, zero, suc, _<_, _≤_}
 use mathlib.Core.Bool.{Bool, true, false, not, _&&_, cond}
 use mathlib.Core.List.{List, [], _∷_}
 use mathlib.Core.Logic.{_⊎_, inl, inr}
@@ -30,13 +31,13 @@ use Rattle.rows.specs.Runs.{runAt}
 use Rattle.replay.specs.declared.entry.Entry.{Entry}
 use Rattle.realm.specs.declared.header.Realm.{Realm}
 use Rattle.realm.specs.declared.input.Step.{Step}
-use Rattle.realm.specs.Input.{usesOf, unusedZero, inRange, inputRefusal}
+use Rattle.realm.specs.Input.{usesTable, usesOf, unusedZero, inRange, inputRefusal}
 use Rattle.realm.specs.Tables.{Tables}
 use Rattle.conditions.specs.Conditions.{derivableAt, ticketLives, admission}
 use Rattle.conditions.specs.Promises.{admission-refusals}
 use Rattle.decisions.specs.declared.Verdict.{Verdict}
 use Rattle.decisions.specs.declared.Verdict.the-variants.{Takes, Refused}
-use Rattle.decisions.specs.Effects.{messagesOf}
+use Rattle.decisions.specs.Effects.{messagesOf, nothing}
 use Rattle.decisions.specs.Decision.{need, roomForRun, onRequest, issues, onReply, authenticates, onDelivery, takes, onConfirmation, finishes}
 use Rattle.decisions.specs.Decision.{opensRun, ticks, queries, stepOf, decided, roomed, decision}
 
@@ -56,26 +57,46 @@ refusalsOf step = getD (
     ∷ (15 ∷ [])
     ∷ []) step []
 
--- the verdict takes the step, or has one of these numbers
-abbrev pub Tells : List ℕ → Verdict → Type 0
-Tells ns (Takes x) = Unit {0}
-Tells ns (Refused k) = k ∈ ns
+-- whether the intruder can derive the message that the step uses; true where it uses none
+unfoldable pub askedFor : Tables → Step → Bool
+askedFor t s = cond (usesOf (s .step) .m) (derivableAt (t .realm) (t .terms) (t .wire) (s .m)) true
 
-tells-need : (ns : List ℕ) (ok : Bool) {k : ℕ} (v : Verdict) → k ∈ ns → Tells ns v → Tells ns (need ok k v)
-tells-need ns true v i h = h
-tells-need ns false v i h = i
+-- 15 is given where it cannot be derived, a number above 15 only where it can
+pub record Parted (d : Bool) (k : ℕ) : Type 0 where
+  pub underivable : k ≡ 15 → d ≡ false
+  pub derivable : 15 < k → d ≡ true
+
+-- the verdict takes the step, its message being derivable, or has one of these numbers
+abbrev pub Tells : List ℕ → Bool → Verdict → Type 0
+Tells ns d (Takes x) = d ≡ true
+Tells ns d (Refused k) = (k ∈ ns) × Parted d k
+
+under : {d : Bool} (k : ℕ) → k < 15 → Parted d k
+under k h = record { underivable = λ e. absurd (omega arith); derivable = λ l. absurd (omega arith) }
+
+over : {d : Bool} (k : ℕ) → 15 < k → d ≡ true → Parted d k
+over k h e = record { underivable = λ q. absurd (omega arith); derivable = λ _. e }
+
+tells-need : (ns : List ℕ) (d ok : Bool) (k : ℕ) (v : Verdict) → k ∈ ns → Parted d k → Tells ns d v → Tells ns d (need ok k v)
+tells-need ns d true k v i p h = h
+tells-need ns d false k v i p h = (i, p)
+
+-- 15 itself
+tells-derivable : (ns : List ℕ) (d : Bool) (v : Verdict) → 15 ∈ ns → (d ≡ true → Tells ns d v) → Tells ns d (need d 15 v)
+tells-derivable ns true v i h = h refl
+tells-derivable ns false v i h = (i, record { underivable = λ _. refl; derivable = λ l. absurd (omega arith) })
 
 -- a number that is 0 where all is well
-tells-number : (ns : List ℕ) (k : ℕ) (v : Verdict) → (k ≡ 0) ⊎ (k ∈ ns) → Tells ns v → Tells ns (need (eqb k 0) k v)
-tells-number ns k v (inl e) h = rw (eq-eqb k 0 e) h
-tells-number ns k v (inr i) h = tells-need ns (eqb k 0) v i h
+tells-number : (ns : List ℕ) (d : Bool) (k : ℕ) (v : Verdict) → (k ≡ 0) ⊎ ((k ∈ ns) × Parted d k) → Tells ns d v → Tells ns d (need (eqb k 0) k v)
+tells-number ns d k v (inl e) h = rw (eq-eqb k 0 e) h
+tells-number ns d k v (inr (i, p)) h = tells-need ns d (eqb k 0) k v i p h
 
 -- ---- the steps that take a message
 
 -- 16 to 19, of step 5
-of-admission : (k : ℕ) → (k ≡ 0) ⊎ ((16 ≤ k) × (k ≤ 19)) → (k ≡ 0) ⊎ (k ∈ refusalsOf 5)
-of-admission k (inl e) = inl e
-of-admission k (inr (low, high)) = inr (by (ℕ-discrete k 16) (ℕ-discrete k 17) (ℕ-discrete k 18))
+of-admission : {d : Bool} (k : ℕ) → d ≡ true → (k ≡ 0) ⊎ ((16 ≤ k) × (k ≤ 19)) → (k ≡ 0) ⊎ ((k ∈ refusalsOf 5) × Parted d k)
+of-admission k e (inl z) = inl z
+of-admission k e (inr (low, high)) = inr (by (ℕ-discrete k 16) (ℕ-discrete k 17) (ℕ-discrete k 18), over k (omega arith) e)
   where
     by : Dec (k ≡ 16) → Dec (k ≡ 17) → Dec (k ≡ 18) → k ∈ refusalsOf 5
     by (yes e) _ _ = rw e (there (there (there here)))
@@ -84,39 +105,45 @@ of-admission k (inr (low, high)) = inr (by (ℕ-discrete k 16) (ℕ-discrete k 1
     by (no p) (no q) (no r) = let e : k ≡ 19 = omega arith in rw e (there (there (there (there (there (there here))))))
 
 module _ (h : Realm) (ts ws : List ℕ) (m : ℕ) where
-  on-request : (q : Request) → Tells (refusalsOf 3) (onRequest h ts ws m q)
-  on-request requests.Other = there here
+  abbrev can : Bool
+  can = derivableAt h ts ws m
+
+  on-request : (q : Request) → Tells (refusalsOf 3) can (onRequest h ts ws m q)
+  on-request requests.Other = (there here, under 14 (omega arith))
   on-request (requests.Is a b n) =
-      tells-need (refusalsOf 3) (not (eqb a 0) && not (eqb b 0) && not (eqb a b)) _ (there here) (tells-need (refusalsOf 3) (derivableAt h ts ws m) _ (there (there here)) tt)
+      tells-need (refusalsOf 3) can (not (eqb a 0) && not (eqb b 0) && not (eqb a b)) 14 _ (there here) (under 14 (omega arith))
+      (tells-derivable (refusalsOf 3) can _ (there (there here)) (λ e. e))
 
   module _ (r : ℕ) (own : Row) where
-    on-reply : (q : Reply) → Tells (refusalsOf 4) (onReply h ts ws r own m q)
-    on-reply replies.Other = there here
+    on-reply : (q : Reply) → Tells (refusalsOf 4) can (onReply h ts ws r own m q)
+    on-reply replies.Other = (there here, under 14 (omega arith))
     on-reply (replies.Is k b ts′ n a) =
-        tells-need (refusalsOf 4) (eqb b (own .b) && eqb n r && eqb a (own .a)) _ (there here)
-        (tells-need (refusalsOf 4) (derivableAt h ts ws m) _ (there (there here)) (tells-need (refusalsOf 4) (ticketLives h ts′) _ (there (there (there here))) tt))
+        tells-need (refusalsOf 4) can (eqb b (own .b) && eqb n r && eqb a (own .a)) 14 _ (there here) (under 14 (omega arith))
+        (tells-derivable (refusalsOf 4) can _ (there (there here))
+        (λ e. tells-need (refusalsOf 4) can (ticketLives h ts′) 16 _ (there (there (there here))) (over 16 (omega arith) e) e))
 
-    on-delivery : (cache : List Entry) (q : Delivery) → Tells (refusalsOf 5) (onDelivery h ts ws cache r own m q)
-    on-delivery cache deliveries.Other = there here
+    on-delivery : (cache : List Entry) (q : Delivery) → Tells (refusalsOf 5) can (onDelivery h ts ws cache r own m q)
+    on-delivery cache deliveries.Other = (there here, under 14 (omega arith))
     on-delivery cache (deliveries.Is k a ts′ b ta) =
-        let e : Entry = record { b = b; k = k; ta = ta } in
-        tells-need (refusalsOf 5) (eqb a (own .a) && eqb b (own .b)) _ (there here)
-        (tells-need (refusalsOf 5) (derivableAt h ts ws m) _ (there (there here))
-        (tells-number (refusalsOf 5) (admission h cache ts′ e) _ (of-admission (admission h cache ts′ e) (admission-refusals h cache ts′ e)) tt))
+        let x : Entry = record { b = b; k = k; ta = ta } in
+        tells-need (refusalsOf 5) can (eqb a (own .a) && eqb b (own .b)) 14 _ (there here) (under 14 (omega arith))
+        (tells-derivable (refusalsOf 5) can _ (there (there here))
+        (λ e. tells-number (refusalsOf 5) can (admission h cache ts′ x) _ (of-admission (admission h cache ts′ x) e (admission-refusals h cache ts′ x)) e))
 
-    on-confirmation : (q : Confirmation) → Tells (refusalsOf 6) (onConfirmation h ts ws r own m q)
-    on-confirmation confirmations.Other = there here
+    on-confirmation : (q : Confirmation) → Tells (refusalsOf 6) can (onConfirmation h ts ws r own m q)
+    on-confirmation confirmations.Other = (there here, under 14 (omega arith))
     on-confirmation (confirmations.Is ta k) =
-        tells-need (refusalsOf 6) (eqb ta (own .ta) && eqb k (own .k)) _ (there here)
-        (tells-need (refusalsOf 6) (derivableAt h ts ws m) _ (there (there here)) (tells-need (refusalsOf 6) (ticketLives h (own .ts)) _ (there (there (there here))) tt))
+        tells-need (refusalsOf 6) can (eqb ta (own .ta) && eqb k (own .k)) 14 _ (there here) (under 14 (omega arith))
+        (tells-derivable (refusalsOf 6) can _ (there (there here))
+        (λ e. tells-need (refusalsOf 6) can (ticketLives h (own .ts)) 16 _ (there (there (there here))) (over 16 (omega arith) e) e))
 
 -- ---- any step
 
 -- 4, 5 and 6
-abbrev fieldRefusals : List ℕ
+abbrev pub fieldRefusals : List ℕ
 fieldRefusals = 4 ∷ 5 ∷ 6 ∷ []
 
-fields-number : (h : Realm) (s : Step) → (inputRefusal h s ≡ 0) ⊎ (inputRefusal h s ∈ fieldRefusals)
+pub fields-number : (h : Realm) (s : Step) → (inputRefusal h s ≡ 0) ⊎ (inputRefusal h s ∈ fieldRefusals)
 unfolding inputRefusal
 fields-number h s = by (leb 1 (s .step) && leb (s .step) 10) (unusedZero (usesOf (s .step)) s) (inRange h (usesOf (s .step)) s)
   where
@@ -133,54 +160,65 @@ fields-number h s = by (leb 1 (s .step) && leb (s .step) 10) (unusedZero (usesOf
 abbrev pub allOf : ℕ → List ℕ
 allOf step = 20 ∷ 4 ∷ 5 ∷ 6 ∷ refusalsOf step
 
-of-fields : {k : ℕ} (step : ℕ) → k ∈ fieldRefusals → k ∈ allOf step
-of-fields step here = there here
-of-fields step (there here) = there (there here)
-of-fields step (there (there here)) = there (there (there here))
+of-fields : {d : Bool} {k : ℕ} (step : ℕ) → k ∈ fieldRefusals → (k ∈ allOf step) × Parted d k
+of-fields step here = (there here, under 4 (omega arith))
+of-fields step (there here) = (there (there here), under 5 (omega arith))
+of-fields step (there (there here)) = (there (there (there here)), under 6 (omega arith))
 
-of-state : (step : ℕ) (v : Verdict) → Tells (refusalsOf step) v → Tells (allOf step) v
-of-state step (Takes x) h = tt
-of-state step (Refused k) i = there (there (there (there i)))
+of-state : (step : ℕ) (d : Bool) (v : Verdict) → Tells (refusalsOf step) d v → Tells (allOf step) d v
+of-state step d (Takes x) h = h
+of-state step d (Refused k) (i, p) = (there (there (there (there i))), p)
+
+-- after a test of the run, or of room for one, or of the clock
+tested : (step : ℕ) (d ok : Bool) (k : ℕ) (v : Verdict) → k ∈ refusalsOf step → k < 15 → Tells (refusalsOf step) d v → Tells (allOf step) d (need ok k v)
+tested step d ok k v i h w = of-state step d (need ok k v) (tells-need (refusalsOf step) d ok k v i (under k h) w)
 
 module _ (t : Tables) where
-  abbrev at : (step r a b m now : ℕ) → Verdict
-  at step r a b m now = stepOf t (record { step = step; run = r; a = a; b = b; m = m; t = now })
+  abbrev fields : (step r a b m now : ℕ) → Step
+  fields step r a b m now = record { step = step; run = r; a = a; b = b; m = m; t = now }
 
-  by-step : (step r a b m now : ℕ) → Tells (allOf step) (at step r a b m now)
-  unfolding stepOf opensRun issues authenticates takes finishes ticks queries
-  by-step zero r a b m now = there here
-  by-step (suc zero) r a b m now = of-state 1 (at 1 r a b m now) (tells-need (refusalsOf 1) (roomForRun (t .realm)) _ here tt)
-  by-step (suc (suc zero)) r a b m now = of-state 2 (at 2 r a b m now) (tells-need (refusalsOf 2) (roomForRun (t .realm)) _ here tt)
+  by-step : (step r a b m now : ℕ) → Tells (allOf step) (askedFor t (fields step r a b m now)) (stepOf t (fields step r a b m now))
+  unfolding stepOf opensRun issues authenticates takes finishes ticks queries askedFor usesTable
+  by-step zero r a b m now = (there here, under 4 (omega arith))
+  by-step (suc zero) r a b m now = tested 1 true (roomForRun (t .realm)) 13 _ here (omega arith) refl
+  by-step (suc (suc zero)) r a b m now = tested 2 true (roomForRun (t .realm)) 13 _ here (omega arith) refl
   by-step (suc (suc (suc zero))) r a b m now =
-      of-state 3 (at 3 r a b m now) (tells-need (refusalsOf 3) (roomForRun (t .realm)) _ here (on-request (t .realm) (t .terms) (t .wire) m (requestIn (messageAt (t .terms) m))))
+      tested 3 (can (t .realm) (t .terms) (t .wire) m) (roomForRun (t .realm)) 13 _ here (omega arith)
+      (on-request (t .realm) (t .terms) (t .wire) m (requestIn (messageAt (t .terms) m)))
   by-step (suc (suc (suc (suc zero)))) r a b m now =
       let own = runAt (t .runs) r in
-      of-state 4 (at 4 r a b m now) (tells-need (refusalsOf 4) (meets (needOf 4) own) _ here (on-reply (t .realm) (t .terms) (t .wire) m r own (replyIn (messageAt (t .terms) m))))
+      tested 4 (can (t .realm) (t .terms) (t .wire) m) (meets (needOf 4) own) 11 _ here (omega arith)
+      (on-reply (t .realm) (t .terms) (t .wire) m r own (replyIn (messageAt (t .terms) m)))
   by-step (suc (suc (suc (suc (suc zero))))) r a b m now =
       let own = runAt (t .runs) r in
-      of-state 5 (at 5 r a b m now) (tells-need (refusalsOf 5) (meets (needOf 5) own) _ here (on-delivery (t .realm) (t .terms) (t .wire) m r own (t .cache) (deliveryIn (messageAt (t .terms) m))))
+      tested 5 (can (t .realm) (t .terms) (t .wire) m) (meets (needOf 5) own) 11 _ here (omega arith)
+      (on-delivery (t .realm) (t .terms) (t .wire) m r own (t .cache) (deliveryIn (messageAt (t .terms) m)))
   by-step (suc (suc (suc (suc (suc (suc zero)))))) r a b m now =
       let own = runAt (t .runs) r in
-      of-state 6 (at 6 r a b m now) (tells-need (refusalsOf 6) (meets (needOf 6) own) _ here (on-confirmation (t .realm) (t .terms) (t .wire) m r own (confirmationIn (messageAt (t .terms) m))))
-  by-step (suc (suc (suc (suc (suc (suc (suc zero))))))) r a b m now = of-state 7 (at 7 r a b m now) (tells-need (refusalsOf 7) (leb (t .realm .clock) now) _ here tt)
-  by-step (suc (suc (suc (suc (suc (suc (suc (suc zero)))))))) r a b m now = tt
+      tested 6 (can (t .realm) (t .terms) (t .wire) m) (meets (needOf 6) own) 11 _ here (omega arith)
+      (on-confirmation (t .realm) (t .terms) (t .wire) m r own (confirmationIn (messageAt (t .terms) m)))
+  by-step (suc (suc (suc (suc (suc (suc (suc zero))))))) r a b m now = tested 7 true (leb (t .realm .clock) now) 12 _ here (omega arith) refl
+  by-step (suc (suc (suc (suc (suc (suc (suc (suc zero)))))))) r a b m now = refl
   by-step (suc (suc (suc (suc (suc (suc (suc (suc (suc zero))))))))) r a b m now =
-      of-state 9 (at 9 r a b m now) (tells-need (refusalsOf 9) (meets (needOf 9) (runAt (t .runs) r)) _ here tt)
+      tested 9 true (meets (needOf 9) (runAt (t .runs) r)) 11 _ here (omega arith) refl
   by-step (suc (suc (suc (suc (suc (suc (suc (suc (suc (suc zero)))))))))) r a b m now =
-      of-state 10 (at 10 r a b m now) (tells-need (refusalsOf 10) (derivableAt (t .realm) (t .terms) (t .wire) m) _ here tt)
-  by-step (suc (suc (suc (suc (suc (suc (suc (suc (suc (suc (suc step))))))))))) r a b m now = there here
+      let d = can (t .realm) (t .terms) (t .wire) m in
+      of-state 10 d (need d 15 (Takes (nothing (t .realm .clock)))) (tells-derivable (refusalsOf 10) d _ here (λ e. e))
+  by-step (suc (suc (suc (suc (suc (suc (suc (suc (suc (suc (suc step))))))))))) r a b m now = (there here, under 4 (omega arith))
 
-  any-fields : (s : Step) → (inputRefusal (t .realm) s ≡ 0) ⊎ (inputRefusal (t .realm) s ∈ fieldRefusals)
-      → (inputRefusal (t .realm) s ≡ 0) ⊎ (inputRefusal (t .realm) s ∈ allOf (s .step))
+  any-fields : {d : Bool} (s : Step) → (inputRefusal (t .realm) s ≡ 0) ⊎ (inputRefusal (t .realm) s ∈ fieldRefusals)
+      → (inputRefusal (t .realm) s ≡ 0) ⊎ ((inputRefusal (t .realm) s ∈ allOf (s .step)) × Parted d (inputRefusal (t .realm) s))
   any-fields s (inl e) = inl e
   any-fields s (inr i) = inr (of-fields (s .step) i)
 
-  with-room : (step : ℕ) (v : Verdict) → Tells (allOf step) v → Tells (allOf step) (roomed t v)
-  with-room step (Refused k) i = i
-  with-room step (Takes x) h = tells-need (allOf step) (fitsIn (t .terms) (t .realm .terms) (messagesOf (x .sends))) (Takes x) here tt
+  with-room : (step : ℕ) (d : Bool) (v : Verdict) → Tells (allOf step) d v → Tells (allOf step) d (roomed t v)
+  with-room step d (Refused k) h = h
+  with-room step d (Takes x) e =
+      tells-need (allOf step) d (fitsIn (t .terms) (t .realm .terms) (messagesOf (x .sends))) 20 (Takes x) here (over 20 (omega arith) e) e
 
-  pub tells : (s : Step) → Tells (allOf (s .step)) (decision t s)
+  pub tells : (s : Step) → Tells (allOf (s .step)) (askedFor t s) (decision t s)
   unfolding decision decided
   tells s =
-      with-room (s .step) (decided t s) (tells-number (allOf (s .step)) (inputRefusal (t .realm) s) (stepOf t s) (any-fields s (fields-number (t .realm) s))
+      let d = askedFor t s in
+      with-room (s .step) d (decided t s) (tells-number (allOf (s .step)) d (inputRefusal (t .realm) s) (stepOf t s) (any-fields s (fields-number (t .realm) s))
       (by-step (s .step) (s .run) (s .a) (s .b) (s .m) (s .t)))

@@ -78,7 +78,7 @@ module _ (t : Tables) (fits : Together t) where
       }
 
   -- a term that can be derived
-  brings : (m : ℕ) (x : Message) → m < t .realm .terms → messageAt (t .terms) m ≡ x → derivableAt (t .realm) (t .terms) (t .wire) m ≡ true → Brings t m x
+  pub brings : (m : ℕ) (x : Message) → m < t .realm .terms → messageAt (t .terms) m ≡ x → derivableAt (t .realm) (t .terms) (t .wire) m ≡ true → Brings t m x
   brings m x l q d =
       record {
         below = l;

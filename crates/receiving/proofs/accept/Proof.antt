@@ -88,23 +88,20 @@ cast-key c =
     let x = f .k .given .0 in
     record { fits = omega (arith, delivery-key-most (f .before .before .before .before .before .pre .0) (x .0) (x .1 .0) (x .1 .1 .0) (x .1 .1 .1 .0) (x .1 .1 .1 .1 .0) (is f)) }
 
-cast-responder : tie.Need-cast-responder
-cast-responder c = search needs
-
-advance-requires : tie.Need-advance-requires
-advance-requires c κs = search needs
+accepted-requires : tie.Need-accepted-requires
+accepted-requires c κs = search needs
 
 returns-5 : tie.Need-returns-5
 returns-5 c =
     let w = c .before in
-    let d = w .before .before .before in
+    let d = w .before .before in
     let e = d .before .before in
     let f = e .before .before .before .before in
     let a = f .before .before .before .before .before .args in
     let x = f .k .given .0 in
-    c .advance .ensures
+    c .accepted .ensures
     ∙ delivery-taken (a .h) (a .terms .now) (a .wire .now) (a .cache) (a .run) (a .own) (a .m) (x .0) (x .1 .0) (x .1 .1 .0) (x .1 .1 .1 .0) (x .1 .1 .1 .1 .0) (is f) (mine e) (derivable d)
-    (w .before .before .admit .result) (w .before .before .admit .ensures) (w .before .if3 .left)
+    (w .before .admit .result) (w .before .admit .ensures) (w .if3 .left)
 
 pub accept-spec : {M : Type 1} → statement M
 accept-spec =
@@ -122,6 +119,5 @@ accept-spec =
     admit-requires
     returns-4
     cast-key
-    cast-responder
-    advance-requires
+    accepted-requires
     returns-5)

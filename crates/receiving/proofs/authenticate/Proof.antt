@@ -88,23 +88,20 @@ cast-key c =
     let x = f .k .given .0 in
     record { fits = omega (arith, reply-key-most (f .before .before .before .before .before .pre) (x .0) (x .1 .0) (x .1 .1 .0) (x .1 .1 .1 .0) (x .1 .1 .1 .1 .0) (is f)) }
 
-cast-initiator : tie.Need-cast-initiator
-cast-initiator c = search needs
-
-advance-requires : tie.Need-advance-requires
-advance-requires c κs = search needs
+authenticated-requires : tie.Need-authenticated-requires
+authenticated-requires c κs = search needs
 
 returns-5 : tie.Need-returns-5
 returns-5 c =
     let w = c .before in
-    let d = w .before .before .before in
+    let d = w .before .before in
     let e = d .before .before in
     let f = e .before .before .before .before in
     let a = f .before .before .before .before .before .args in
     let x = f .k .given .0 in
-    c .advance .ensures
+    c .authenticated .ensures
     ∙ reply-taken (a .h) (a .terms .now) (a .wire .now) (a .run) (a .own) (a .m) (x .0) (x .1 .0) (x .1 .1 .0) (x .1 .1 .1 .0) (x .1 .1 .1 .1 .0) (is f) (mine e) (derivable d)
-    (sym (w .before .before .ticket-lives .ensures) ∙ not-false _ (w .before .if3 .left))
+    (sym (w .before .ticket-lives .ensures) ∙ not-false _ (w .if3 .left))
 
 pub authenticate-spec : {M : Type 1} → statement M
 authenticate-spec =
@@ -122,6 +119,5 @@ authenticate-spec =
     ticket-lives-requires
     returns-4
     cast-key
-    cast-initiator
-    advance-requires
+    authenticated-requires
     returns-5)

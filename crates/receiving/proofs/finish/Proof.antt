@@ -77,8 +77,8 @@ returns-4 c =
     confirmation-over (a .h) (a .terms .now) (a .wire .now) (a .run) (a .own) (a .m) (x .0) (x .1 .0) (is f) (mine e) (derivable d)
     (sym (c .before .ticket-lives .ensures) ∙ not-true _ (c .if3 .taken))
 
-advance-requires : tie.Need-advance-requires
-advance-requires c κs = search needs
+finished-requires : tie.Need-finished-requires
+finished-requires c κs = search needs
 
 returns-5 : tie.Need-returns-5
 returns-5 c =
@@ -88,7 +88,7 @@ returns-5 c =
     let f = e .before .before .before .before in
     let a = f .before .before .before .before .before .args in
     let x = f .ta .given .0 in
-    c .advance .ensures
+    c .finished .ensures
     ∙ confirmation-taken (a .h) (a .terms .now) (a .wire .now) (a .run) (a .own) (a .m) (x .0) (x .1 .0) (is f) (mine e) (derivable d)
     (sym (w .before .ticket-lives .ensures) ∙ not-false _ (w .if3 .left))
 
@@ -106,5 +106,5 @@ finish-spec =
     returns-3
     ticket-lives-requires
     returns-4
-    advance-requires
+    finished-requires
     returns-5)

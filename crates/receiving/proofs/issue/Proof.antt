@@ -65,9 +65,6 @@ returns-4 c =
 cast-r : tie.Need-cast-r
 cast-r c = search needs
 
-cast-key : tie.Need-cast-key
-cast-key c = search needs
-
 cast-initiator : tie.Need-cast-initiator
 cast-initiator c =
     let f = c .before .before .before .before .before in
@@ -80,8 +77,8 @@ cast-responder c =
     let x = f .a .given .0 in
     record { fits = omega (arith, request-in-range (f .before .before .before .before .before .before .before .pre) (x .0) (x .1 .0) (x .1 .1 .0) (is f) .1) }
 
-open-run-requires : tie.Need-open-run-requires
-open-run-requires c κs = search needs
+issued-requires : tie.Need-issued-requires
+issued-requires c κs = search needs
 
 returns-5 : tie.Need-returns-5
 returns-5 c =
@@ -91,7 +88,7 @@ returns-5 c =
     let e = f .before .before .before in
     let a = e .before .before .before .before .args in
     let x = f .a .given .0 in
-    c .open-run .ensures
+    c .issued .ensures
     ∙ request-taken (a .h) (a .terms .now) (a .wire .now) (a .m) (e .if1 .left) (x .0) (x .1 .0) (x .1 .1 .0) (is f) (apart g)
     (sym (w .before .before .can-deliver .ensures) ∙ not-false _ (w .before .if3 .left))
 
@@ -108,8 +105,7 @@ issue-spec =
     can-deliver-requires
     returns-4
     cast-r
-    cast-key
     cast-initiator
     cast-responder
-    open-run-requires
+    issued-requires
     returns-5)

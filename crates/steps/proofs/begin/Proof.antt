@@ -11,13 +11,13 @@ returns c = let a = c .before .before .args in no-room (a .h) (a .role) (a .a) (
 cast-r : tie.Need-cast-r
 cast-r c = search needs
 
-open-run-requires : tie.Need-open-run-requires
-open-run-requires c κs = search needs
+opened-requires : tie.Need-opened-requires
+opened-requires c κs = search needs
 
 returns-2 : tie.Need-returns-2
 returns-2 c =
     let a = c .before .before .before .before .args in
-    c .open-run .ensures ∙ run-opened (a .h) (a .role) (a .a) (a .b) (a .sends) (c .before .before .if1 .left)
+    c .opened .ensures ∙ run-opened (a .h) (a .role) (a .a) (a .b) (a .sends) (c .before .before .if1 .left)
 
 pub begin-spec : {M : Type 1} → statement M
-begin-spec = tie.close (tie.spec returns cast-r open-run-requires returns-2)
+begin-spec = tie.close (tie.spec returns cast-r opened-requires returns-2)
