@@ -2,7 +2,7 @@
 use deduction::Principals;
 use deduction::is_public;
 use marks::is_marked;
-use terms::rules::is_key;
+use term_rules::is_key;
 use words::Term;
 use words::decode;
 use worklist::chains::chain;

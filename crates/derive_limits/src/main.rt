@@ -1,10 +1,10 @@
 // Derivations as long and as deep as can be: a chain of every key that a realm can keep from the intruder, and a pair of a
 // term with itself nested up to the last place. One line for each question, with the answer.
 use deduction::Principals;
+use lent_terms::add_term;
 use marks::with;
 use synthesis::lent::Answer;
 use synthesis::lent::can_derive;
-use terms::lent::add_term;
 use terms::table::Added;
 use words::Term;
 use words::encode;

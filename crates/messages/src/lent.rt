@@ -6,7 +6,7 @@ use super::plan::write_plan;
 use drafts::NODES;
 use drafts::Node;
 use drafts::draft_fits;
-use terms::lent::holds_together;
+use lent_terms::holds_together;
 use terms::rules::REFUSE_FULL;
 use terms::rules::REFUSE_RANGE;
 use terms::rules::REFUSE_TABLES;

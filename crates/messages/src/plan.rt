@@ -2,8 +2,8 @@
 use drafts::Layer;
 use drafts::Node;
 use drafts::layer_of;
+use term_table::find;
 use terms::table::Found;
-use terms::table::find;
 use words::pack;
 ghost use mathlib.Core.Path.{_≡_};
 ghost use Prim.Native.Nat.{_+_, _<_, _≤_};

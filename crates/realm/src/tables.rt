@@ -1,12 +1,12 @@
 // Whether tables that are handed in hold together: what refusal 10 looks at. Any slices, any numbers, nothing required.
 use super::header::Realm;
 use super::header::header_fits;
+use lent_terms::holds_together;
 use marks::is_within;
 use marks::load;
 use replay::entry::Entry;
 use replay::entry::PLACES;
 use runs::lent::rows_hold;
-use terms::lent::holds_together;
 use terms::rules::LAST_NUMBER;
 ghost use mathlib.Core.Bool.{true};
 ghost use mathlib.Core.Path.{_≡_};

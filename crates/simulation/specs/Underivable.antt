@@ -38,13 +38,16 @@ module _ {R : Realm} (t : Tables) (ρ : Reading Event) (f : Follows R t ρ) (ste
   pub underivable-exact : let answer = called t (calls.Step step r a b m now) .answer in (answer ≡ Refused 15) ↔ Barred R ρ step m answer
   unfolding called
   underivable-exact =
-      let d = decisions.underivable-exact t (f .together) s in
-      (λ e. let p = d .0 (step-refused t s .0 e) in
-          record {
-            can-have = p .0;
-            underivable = λ x y. p .1 x (brings t ρ (f .together) (own t ρ f) (subst (λ (R : Realm). Delivers R (ρ .terms) (ρ .log) m x) (sym (f .header-is)) y));
-            reached = λ k h q. p .2 k h (step-refused t s .0 q);
-          },
-        λ p. step-refused t s .1 (d .1 (p .can-have,
+      let d = decisions.underivable-exact t (f .together) s in (
+        λ e. let p = d .0 (step-refused t s .0 e) in
+            record {
+              can-have = p .0;
+              underivable = λ x y. p .1 x (brings t ρ (f .together) (own t ρ f) (subst (λ (R : Realm). Delivers R (ρ .terms) (ρ .log) m x) (sym (f .header-is)) y));
+              reached = λ k h q. p .2 k h (step-refused t s .0 q);
+            },
+        λ p. step-refused t s .1 (d .1 (
+          p .can-have,
           λ x y. p .underivable x (subst (λ (R : Realm). Delivers R (ρ .terms) (ρ .log) m x) (f .header-is) (delivers t ρ (f .together) (own t ρ f) y)),
-          λ k h q. p .reached k h (step-refused t s .1 q))))
+          λ k h q. p .reached k h (step-refused t s .1 q),
+        )),
+      )

@@ -1,9 +1,9 @@
 // The public call on lent tables: any slices, any numbers, nothing required.
 use super::compose::derivable;
 use deduction::Principals;
+use lent_terms::holds_together;
 use marks::is_within;
 use marks::load;
-use terms::lent::holds_together;
 use terms::rules::REFUSE_RANGE;
 use terms::rules::REFUSE_TABLES;
 ghost use Rattle.synthesis.specs.Lent.{AnswerIs};

@@ -9,11 +9,11 @@ use cases::print_text;
 use cases::word;
 use drafts::DraftKey;
 use drafts::Node;
+use lent_terms::Lookup;
+use lent_terms::add_term;
+use lent_terms::find_term;
 use messages::lent::Stored;
 use messages::lent::add_message;
-use terms::lent::Lookup;
-use terms::lent::add_term;
-use terms::lent::find_term;
 use terms::table::Added;
 
 const PRINCIPALS: u16 = 3;

@@ -1,7 +1,7 @@
 // Writing answers.
 use cases::print_number;
+use lent_terms::Lookup;
 use messages::lent::Stored;
-use terms::lent::Lookup;
 use terms::table::Added;
 
 fn print_refusal(number: u8) {

@@ -9,5 +9,4 @@ pub mod Valid
 pub mod Meaning
 pub mod Outcome
 pub mod Add
-pub mod Lent
 pub mod Number

@@ -1,5 +1,5 @@
 -- What the crate promises beside the contracts of its functions, each proved in the files below. Reading order of the
--- definitions: Message, Rules, Table, Valid, Outcome, Add, Lent; then Meaning and Number, by which a number of the table and a
+-- definitions: Message, Rules, Table, Valid, Outcome, Add; then Meaning and Number, by which a number of the table and a
 -- message stand for each other.
 -- Assumes nothing.
 use mathlib.Core.Path.{_≡_}

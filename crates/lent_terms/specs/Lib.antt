@@ -1,0 +1,2 @@
+-- The public calls on a lent term table.
+pub mod Lent
