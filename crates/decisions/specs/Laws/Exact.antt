@@ -99,9 +99,9 @@ module _ (t : Tables) (fits : Together t) where
       → issues (t .realm) (t .terms) (t .wire) m ≡ Takes (issuing (t .realm .clock) (t .realm .runs) a b n)
   unfolding issues
   issues-on m a b n k p room =
-      met (ltb (t .realm .runs) 64) 13 _ (lt-ltb (t .realm .runs) 64 room)
+      met (ltb (t .realm .runs) 64) _ _ (lt-ltb (t .realm .runs) 64 room)
       (ap (onRequest (t .realm) (t .terms) (t .wire) m) (is-request (messageAt (t .terms) m) a b n .1 (k .is))
-      ∙ met (not (eqb a 0) && not (eqb b 0) && not (eqb a b)) 14 _ apart (met (derivableAt (t .realm) (t .terms) (t .wire) m) 15 _ (derivable m k) refl))
+      ∙ met (not (eqb a 0) && not (eqb b 0) && not (eqb a b)) _ _ apart (met (derivableAt (t .realm) (t .terms) (t .wire) m) _ _ (derivable m k) refl))
     where
       apart : (not (eqb a 0) && not (eqb b 0) && not (eqb a b)) ≡ true
       apart = rw (ne-eqb a 0 (p .a-not-server), ne-eqb b 0 (p .b-not-server), ne-eqb a b (p .unequal))
@@ -111,8 +111,8 @@ module _ (t : Tables) (fits : Together t) where
   unfolding authenticates
   authenticates-on r m k ts d l =
       ap (onReply (t .realm) (t .terms) (t .wire) r (rowAt t r) m) (is-reply (messageAt (t .terms) m) k (rowAt t r .b) ts r (rowAt t r .a) .1 (d .is))
-      ∙ met (eqb (rowAt t r .b) (rowAt t r .b) && eqb r r && eqb (rowAt t r .a) (rowAt t r .a)) 14 _ (own (rowAt t r .b) (rowAt t r .a))
-      (met (derivableAt (t .realm) (t .terms) (t .wire) m) 15 _ (derivable m d) (met (ticketLives (t .realm) ts) 16 _ (lt-ltb _ _ l) refl))
+      ∙ met (eqb (rowAt t r .b) (rowAt t r .b) && eqb r r && eqb (rowAt t r .a) (rowAt t r .a)) _ _ (own (rowAt t r .b) (rowAt t r .a))
+      (met (derivableAt (t .realm) (t .terms) (t .wire) m) _ _ (derivable m d) (met (ticketLives (t .realm) ts) _ _ (lt-ltb _ _ l) refl))
     where
       own : (b a : ℕ) → (eqb b b && eqb r r && eqb a a) ≡ true
       own b a = rw (equal b, equal r, equal a)
@@ -125,8 +125,8 @@ module _ (t : Tables) (fits : Together t) where
       let number = admission (t .realm) (t .cache) ts (record { b = rowAt t r .b; k = k; ta = ta }) in
       ap (onDelivery (t .realm) (t .terms) (t .wire) (t .cache) r (rowAt t r) m)
       (is-delivery (messageAt (t .terms) m) k (rowAt t r .a) ts (rowAt t r .b) ta .1 (d .is))
-      ∙ met (eqb (rowAt t r .a) (rowAt t r .a) && eqb (rowAt t r .b) (rowAt t r .b)) 14 _ (twice (rowAt t r .a) (rowAt t r .b))
-      (met (derivableAt (t .realm) (t .terms) (t .wire) m) 15 _ (derivable m d)
+      ∙ met (eqb (rowAt t r .a) (rowAt t r .a) && eqb (rowAt t r .b) (rowAt t r .b)) _ _ (twice (rowAt t r .a) (rowAt t r .b))
+      (met (derivableAt (t .realm) (t .terms) (t .wire) m) _ _ (derivable m d)
       (met (eqb number 0) number _ (eq-eqb number 0 (admitted ts (rowAt t r .b) k ta l)) refl))
 
   finishes-on : (r m : ℕ) → Brings t m (confirmation (rowAt t r .ta) (rowAt t r .k)) → t .realm .clock < rowAt t r .ts + t .realm .ls
@@ -135,8 +135,8 @@ module _ (t : Tables) (fits : Together t) where
   unfolding finishes
   finishes-on r m d l =
       ap (onConfirmation (t .realm) (t .terms) (t .wire) r (rowAt t r) m) (is-confirmation (messageAt (t .terms) m) (rowAt t r .ta) (rowAt t r .k) .1 (d .is))
-      ∙ met (eqb (rowAt t r .ta) (rowAt t r .ta) && eqb (rowAt t r .k) (rowAt t r .k)) 14 _ (twice (rowAt t r .ta) (rowAt t r .k))
-      (met (derivableAt (t .realm) (t .terms) (t .wire) m) 15 _ (derivable m d) (met (ticketLives (t .realm) (rowAt t r .ts)) 16 _ (lt-ltb _ _ l) refl))
+      ∙ met (eqb (rowAt t r .ta) (rowAt t r .ta) && eqb (rowAt t r .k) (rowAt t r .k)) _ _ (twice (rowAt t r .ta) (rowAt t r .k))
+      (met (derivableAt (t .realm) (t .terms) (t .wire) m) _ _ (derivable m d) (met (ticketLives (t .realm) (rowAt t r .ts)) _ _ (lt-ltb _ _ l) refl))
 
   -- ---- by the rows of the step table
 
@@ -157,32 +157,32 @@ module _ (t : Tables) (fits : Together t) where
   unfolding stepOf usesTable needTable opensRun ticks queries
   took-by (took1 {a} {b} p room) =
       decided-by (fields 1 0 a b 0 0) (omega arith) (omega arith) refl (opens-in 1 a b p)
-      (met (ltb (t .realm .runs) 64) 13 _ (lt-ltb (t .realm .runs) 64 room) refl)
+      (met (ltb (t .realm .runs) 64) _ _ (lt-ltb (t .realm .runs) 64 room) refl)
   took-by (took2 {a} {b} p room) =
       decided-by (fields 2 0 a b 0 0) (omega arith) (omega arith) refl (opens-in 2 a b p)
-      (met (ltb (t .realm .runs) 64) 13 _ (lt-ltb (t .realm .runs) 64 room) refl)
+      (met (ltb (t .realm .runs) 64) _ _ (lt-ltb (t .realm .runs) 64 room) refl)
   took-by (took3 {m} {a} {b} {n} k p room) =
       decided-by (fields 3 0 0 0 m 0) (omega arith) (omega arith) refl (message-in 3 m (k .below)) (issues-on m a b n k p room)
   took-by (took4 {r} {m} {k} {ts} w d l) =
       decided-by (fields 4 r 0 0 m 0) (omega arith) (omega arith) refl (takes-in 4 r m (w .below) (d .below))
-      (met _ 11 _ (w .at) (authenticates-on r m k ts d l))
+      (met _ _ _ (w .at) (authenticates-on r m k ts d l))
   took-by (took5 {r} {m} {k} {ts} {ta} w d l) =
       decided-by (fields 5 r 0 0 m 0) (omega arith) (omega arith) refl (takes-in 5 r m (w .below) (d .below))
-      (met _ 11 _ (w .at) (takes-on r m k ts ta d l))
+      (met _ _ _ (w .at) (takes-on r m k ts ta d l))
   took-by (took6 {r} {m} w d l) =
       decided-by (fields 6 r 0 0 m 0) (omega arith) (omega arith) refl (takes-in 6 r m (w .below) (d .below))
-      (met _ 11 _ (w .at) (finishes-on r m d l))
+      (met _ _ _ (w .at) (finishes-on r m d l))
   took-by (took7 {now} l) =
       decided-by (fields 7 0 0 0 0 now) (omega arith) (omega arith) refl (record { run = refl; principals = refl; b = refl; m = refl })
-      (met (leb (t .realm .clock) now) 12 _ (le-leb (t .realm .clock) now l) refl)
+      (met (leb (t .realm .clock) now) _ _ (le-leb (t .realm .clock) now l) refl)
   took-by (took8 {b} l) =
       decided-by (fields 8 0 0 b 0 0) (omega arith) (omega arith) refl (record { run = refl; principals = refl; b = lt-ltb b (t .realm .n) l; m = refl }) refl
   took-by (took9 {r} w) =
       decided-by (fields 9 r 0 0 0 0) (omega arith) (omega arith) refl
-      (record { run = lt-ltb r (t .realm .runs) (w .below); principals = refl; b = refl; m = refl }) (met _ 11 _ (w .at) refl)
+      (record { run = lt-ltb r (t .realm .runs) (w .below); principals = refl; b = refl; m = refl }) (met _ _ _ (w .at) refl)
   took-by (took10 {m} k) =
       decided-by (fields 10 0 0 0 m 0) (omega arith) (omega arith) refl (message-in 10 m (k .below))
-      (met (derivableAt (t .realm) (t .terms) (t .wire) m) 15 _ (derivable m k) refl)
+      (met (derivableAt (t .realm) (t .terms) (t .wire) m) _ _ (derivable m k) refl)
 
 pub took-decided : (t : Tables) → Together t → (s : Step) {e : Event} {x : Effect} → Took t (callOf s) e x → decided t s ≡ Takes x
 took-decided t fits s k = took-by t fits k

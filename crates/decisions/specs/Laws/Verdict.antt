@@ -96,8 +96,8 @@ module _ (t : Tables) (fits : Together t) where
       → {e : Effect} → onRequest (t .realm) (t .terms) (t .wire) m q ≡ Takes e → TookAs t (calls.Step 3 0 0 0 m 0) e
   took-issue m l room requests.Other i v = not-refused v
   took-issue m l room (requests.Is a b n) i v =
-      let p = need-takes (not (eqb a 0) && not (eqb b 0) && not (eqb a b)) 14 _ v in
-      let d = need-takes (can m) 15 _ (p .1) in
+      let p = need-takes (not (eqb a 0) && not (eqb b 0) && not (eqb a b)) _ _ v in
+      let d = need-takes (can m) _ _ (p .1) in
       let f = five true true (not (eqb a 0)) (not (eqb b 0)) (not (eqb a b)) (p .0) in
       let apart : Apart a b =
       record { a-not-server = differ a 0 (f .third); b-not-server = differ b 0 (f .fourth); unequal = differ a b (f .fifth) } in
@@ -111,9 +111,9 @@ module _ (t : Tables) (fits : Together t) where
       → {e : Effect} → onReply (t .realm) (t .terms) (t .wire) r (rowAt t r) m q ≡ Takes e → TookAs t (calls.Step 4 r 0 0 m 0) e
   took-reply r m w l replies.Other i v = not-refused v
   took-reply r m w l (replies.Is k b ts n a) i v =
-      let p = need-takes (eqb b (rowAt t r .b) && eqb n r && eqb a (rowAt t r .a)) 14 _ v in
-      let d = need-takes (can m) 15 _ (p .1) in
-      let j = need-takes (ticketLives (t .realm) ts) 16 _ (d .1) in
+      let p = need-takes (eqb b (rowAt t r .b) && eqb n r && eqb a (rowAt t r .a)) _ _ v in
+      let d = need-takes (can m) _ _ (p .1) in
+      let j = need-takes (ticketLives (t .realm) ts) _ _ (d .1) in
       let f = five true true (eqb b (rowAt t r .b)) (eqb n r) (eqb a (rowAt t r .a)) (p .0) in
       let own = same (eqb-true b (rowAt t r .b) (f .third)) (eqb-true n r (f .fourth)) (eqb-true a (rowAt t r .a) (f .fifth)) in
       subst (TookAs t (calls.Step 4 r 0 0 m 0)) (same-effect (j .1))
@@ -126,8 +126,8 @@ module _ (t : Tables) (fits : Together t) where
       → {e : Effect} → onDelivery (t .realm) (t .terms) (t .wire) (t .cache) r (rowAt t r) m q ≡ Takes e → TookAs t (calls.Step 5 r 0 0 m 0) e
   took-delivery r m w l deliveries.Other i v = not-refused v
   took-delivery r m w l (deliveries.Is k a ts b ta) i v =
-      let p = need-takes (eqb a (rowAt t r .a) && eqb b (rowAt t r .b)) 14 _ v in
-      let d = need-takes (can m) 15 _ (p .1) in
+      let p = need-takes (eqb a (rowAt t r .a) && eqb b (rowAt t r .b)) _ _ v in
+      let d = need-takes (can m) _ _ (p .1) in
       let number = admission (t .realm) (t .cache) ts (record { b = b; k = k; ta = ta }) in
       let j = need-takes (eqb number 0) number _ (d .1) in
       let f = five true true true (eqb a (rowAt t r .a)) (eqb b (rowAt t r .b)) (p .0) in
@@ -144,9 +144,9 @@ module _ (t : Tables) (fits : Together t) where
       → {e : Effect} → onConfirmation (t .realm) (t .terms) (t .wire) r (rowAt t r) m q ≡ Takes e → TookAs t (calls.Step 6 r 0 0 m 0) e
   took-confirmation r m w l confirmations.Other i v = not-refused v
   took-confirmation r m w l (confirmations.Is ta k) i v =
-      let p = need-takes (eqb ta (rowAt t r .ta) && eqb k (rowAt t r .k)) 14 _ v in
-      let d = need-takes (can m) 15 _ (p .1) in
-      let j = need-takes (ticketLives (t .realm) (rowAt t r .ts)) 16 _ (d .1) in
+      let p = need-takes (eqb ta (rowAt t r .ta) && eqb k (rowAt t r .k)) _ _ v in
+      let d = need-takes (can m) _ _ (p .1) in
+      let j = need-takes (ticketLives (t .realm) (rowAt t r .ts)) _ _ (d .1) in
       let f = five true true true (eqb ta (rowAt t r .ta)) (eqb k (rowAt t r .k)) (p .0) in
       let own = same (eqb-true ta (rowAt t r .ta) (f .fourth)) (eqb-true k (rowAt t r .k) (f .fifth)) in
       subst (TookAs t (calls.Step 6 r 0 0 m 0)) (same-effect (j .1))
@@ -160,10 +160,10 @@ module _ (t : Tables) (fits : Together t) where
   abbrev fields : (step r a b m now : ℕ) → Step
   fields step r a b m now = record { step = step; run = r; a = a; b = b; m = m; t = now }
 
-  met : (r : ℕ) (role : Role) (stage : Stage) (v : Verdict) {e : Effect} → r < t .realm .runs → need (isAt (rowAt t r) role stage) 11 v ≡ Takes e
+  met : (r : ℕ) (role : Role) (stage : Stage) (k : ℕ) (v : Verdict) {e : Effect} → r < t .realm .runs → need (isAt (rowAt t r) role stage) k v ≡ Takes e
       → Meets t r role stage × (v ≡ Takes e)
-  met r role stage v l q =
-      let p = need-takes (isAt (rowAt t r) role stage) 11 v q in
+  met r role stage k v l q =
+      let p = need-takes (isAt (rowAt t r) role stage) k v q in
       (record { below = l; at = p .0 }, p .1)
 
   took-by : (step r a b m now : ℕ) {e : Effect} → Range (t .realm) (usesOf step) (fields step r a b m now) → stepOf t (fields step r a b m now) ≡ Takes e
@@ -171,33 +171,33 @@ module _ (t : Tables) (fits : Together t) where
   unfolding stepOf usesTable needTable opensRun issues authenticates takes finishes ticks queries
   took-by zero r a b m now f v = not-refused v
   took-by (suc zero) r a b m now f v =
-      let p = need-takes (ltb (t .realm .runs) 64) 13 _ v in
+      let p = need-takes (ltb (t .realm .runs) 64) _ _ v in
       subst (TookAs t (calls.Step 1 0 a b 0 0)) (same-effect (p .1)) (took-as (took1 (f .principals refl) (ltb-true (t .realm .runs) 64 (p .0))))
   took-by (suc (suc zero)) r a b m now f v =
-      let p = need-takes (ltb (t .realm .runs) 64) 13 _ v in
+      let p = need-takes (ltb (t .realm .runs) 64) _ _ v in
       subst (TookAs t (calls.Step 2 0 a b 0 0)) (same-effect (p .1)) (took-as (took2 (f .principals refl) (ltb-true (t .realm .runs) 64 (p .0))))
   took-by (suc (suc (suc zero))) r a b m now f v =
-      let p = need-takes (ltb (t .realm .runs) 64) 13 _ v in
+      let p = need-takes (ltb (t .realm .runs) 64) _ _ v in
       took-issue m (f .m refl) (ltb-true (t .realm .runs) 64 (p .0)) (requestIn (messageAt (t .terms) m)) refl (p .1)
   took-by (suc (suc (suc (suc zero)))) r a b m now f v =
-      let p = met r Initiator Opened _ (f .run refl) v in
+      let p = met r Initiator Opened _ _ (f .run refl) v in
       took-reply r m (p .0) (f .m refl) (replyIn (messageAt (t .terms) m)) refl (p .1)
   took-by (suc (suc (suc (suc (suc zero))))) r a b m now f v =
-      let p = met r Responder Opened _ (f .run refl) v in
+      let p = met r Responder Opened _ _ (f .run refl) v in
       took-delivery r m (p .0) (f .m refl) (deliveryIn (messageAt (t .terms) m)) refl (p .1)
   took-by (suc (suc (suc (suc (suc (suc zero)))))) r a b m now f v =
-      let p = met r Initiator Authenticated _ (f .run refl) v in
+      let p = met r Initiator Authenticated _ _ (f .run refl) v in
       took-confirmation r m (p .0) (f .m refl) (confirmationIn (messageAt (t .terms) m)) refl (p .1)
   took-by (suc (suc (suc (suc (suc (suc (suc zero))))))) r a b m now f v =
-      let p = need-takes (leb (t .realm .clock) now) 12 _ v in
+      let p = need-takes (leb (t .realm .clock) now) _ _ v in
       subst (TookAs t (calls.Step 7 0 0 0 0 now)) (same-effect (p .1)) (took-as (took7 (leb-true (t .realm .clock) now (p .0))))
   took-by (suc (suc (suc (suc (suc (suc (suc (suc zero)))))))) r a b m now f v =
       subst (TookAs t (calls.Step 8 0 0 b 0 0)) (same-effect v) (took-as (took8 (f .b refl)))
   took-by (suc (suc (suc (suc (suc (suc (suc (suc (suc zero))))))))) r a b m now f v =
-      let p = met r Server Done _ (f .run refl) v in
+      let p = met r Server Done _ _ (f .run refl) v in
       subst (TookAs t (calls.Step 9 r 0 0 0 0)) (same-effect (p .1)) (took-as (took9 (p .0)))
   took-by (suc (suc (suc (suc (suc (suc (suc (suc (suc (suc zero)))))))))) r a b m now f v =
-      let p = need-takes (can m) 15 _ v in
+      let p = need-takes (can m) _ _ v in
       subst (TookAs t (calls.Step 10 0 0 0 m 0)) (same-effect (p .1)) (took-as (took10 (brings m _ (f .m refl) refl (p .0))))
   took-by (suc (suc (suc (suc (suc (suc (suc (suc (suc (suc (suc step))))))))))) r a b m now f v = not-refused v
 
