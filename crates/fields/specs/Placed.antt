@@ -1,12 +1,13 @@
 -- Bytes written into a buffer from an offset on.
 -- Assumes nothing.
-use mathlib.Core.List.{List, _++_, append-assoc}
-use mathlib.Core.Path.{_≡_, ap, _∙_, subst}
-use Prim.Native.Nat.{ℕ, _+_, _≤_}
+use mathlib.Core.List.{List, [], _∷_, _++_, append-assoc}
+use mathlib.Core.Path.{_≡_, sym, ap, _∙_, subst}
+use Prim.Native.Nat.{ℕ, suc, _+_, _≤_, _<_}
 use native.Mathlib.Omega.{arith}
 use native.Mathlib.Nat.{add-assoc}
-use lib.ListN.{length, take, drop, length-append}
-use lib.Seq.{length-take-le, take-at, drop-at, drop-drop}
+use native.Mathlib.Numerals.{add-one}
+use lib.ListN.{length, take, drop, set, length-append}
+use lib.Seq.{length-take-le, set-split, take-set-le, take-at, drop-at, drop-drop}
 
 -- the buffer with these bytes from offset `at` on, and no other place changed
 unfoldable pub placed : (buffer : List ℕ) (at : ℕ) (bytes : List ℕ) → List ℕ
@@ -16,6 +17,32 @@ placed buffer at bytes = take at buffer ++ bytes ++ drop (at + length bytes) buf
 pub record Wrote (before : List ℕ) (at : ℕ) (bytes : List ℕ) (after : List ℕ) (next : ℕ) : Type 0 where
   pub contents : after ≡ placed before at bytes
   pub offset : next ≡ at + length bytes
+
+-- ---- byte by byte, the last first
+
+-- a byte stored is a byte written,
+pub placed-one : (xs : List ℕ) (at x : ℕ) → at < length xs → set xs at x ≡ placed xs at (x ∷ [])
+unfolding placed
+placed-one xs at x h = rw (set-split xs at x h, ← add-one at) (sym (append-assoc (take at xs) (x ∷ []) (drop (at + 1) xs)))
+
+-- and one stored before those that go in front of it is written behind them
+pub placed-last : (xs : List ℕ) (at : ℕ) (u : List ℕ) (x : ℕ) {k : ℕ} → k ≡ at + length u → k < length xs
+    → placed (set xs k x) at u ≡ placed xs at (u ++ (x ∷ []))
+unfolding placed
+placed-last xs at u x {k} e h =
+    rw (
+      ← e,
+      take-set-le at xs k x (omega arith),
+      drop-set,
+      length-append u (x ∷ []),
+      ← append-assoc (take at xs) u (x ∷ []),
+      append-assoc (take at xs ++ u) (x ∷ []) (drop (at + (length u + 1)) xs),
+      ← add-assoc at (length u) 1,
+      ← e,
+    )
+  where
+    drop-set : drop k (set xs k x) ≡ x ∷ drop (k + 1) xs
+    drop-set = rw (set-split xs k x h, add-one k) (drop-at (take k xs) (x ∷ drop (suc k) xs) k (length-take-le k xs (omega (arith, h))))
 
 -- ---- one after the other
 

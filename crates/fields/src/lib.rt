@@ -17,14 +17,34 @@ pub fn write_text(out: &mut [u8], at: usize, text: &[u8]) -> usize
     at + written
 }
 
-// A number in decimal, without leading zeros.
+// How many digits a number has.
+fn digits(number: u32) -> usize
+    ensures { λ r. ⌜ (r ≡ length (decimal number)) × (r ≤ 10) ⌝ }
+{
+    let mut count: usize = 1;
+    let mut rest = number;
+    while 10 <= rest {
+        count += 1;
+        rest /= 10;
+    }
+    count
+}
+
+// A number in decimal, without leading zeros: the last digit first, each before those that are written.
 pub fn write_number(out: &mut [u8], at: usize, number: u32) -> usize
     requires { ⌜ at + 10 ≤ length (now out) ⌝ }
     ensures { λ r. ⌜ Wrote (now (out .entry)) at (decimal number) (now (out .exit)) r × (r ≤ at + 10) ⌝ }
 {
-    let mut digits = [0u8; 20];
-    let count = io::decimal(number as u64, &mut digits);
-    write_text(out, at, &digits[..count])
+    let end = at + digits(number);
+    let mut first = end;
+    let mut rest = number;
+    while 10 <= rest {
+        first -= 1;
+        out[first] = b'0' + (rest % 10) as u8;
+        rest /= 10;
+    }
+    out[at] = b'0' + rest as u8;
+    end
 }
 
 // A text, then a number.

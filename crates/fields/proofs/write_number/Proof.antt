@@ -1,54 +1,100 @@
--- `fields::write_number` meets its contract: the kit's fewest digits are the decimal ones. Assumes nothing.
-use mathlib.Core.List.{List}
-use mathlib.Core.Path.{_≡_, _∙_}
-use Prim.Native.Nat.{ℕ, _^_, _<_, _≤_}
-use lib.ListN.{length}
-use Rattle.fields.specs.Fields.{decimal}
-use Rattle.fields.specs.Placed.{wrote-as}
-use Rattle.fields.specs.Decimal.{decimal-fewest, decimal-short}
+-- `fields::write_number` meets its contract: with the digits of the rest, the buffer is what it is to be. The measure is the rest.
+-- Assumes nothing.
+use mathlib.Core.Path.{_≡_, refl, sym, ap, _∙_}
+use Prim.Native.Nat.{_+_, _-_, _/_, _%_, _≤_}
 use native.Mathlib.Omega.{arith}
+use lib.ListN.{length}
 use borrow.Author.Needs.{needs}
+use Rattle.fields.specs.Fields.{decimal}
+use Rattle.fields.specs.Placed.{placed, placed-one, placed-last}
+use Rattle.fields.specs.Decimal.{decimal-one, decimal-more, length-more}
 use Rattle.fields.proofs.write_number.Statement.{statement}
 use Rattle.fields.proofs.write_number.Tie as tie
 
--- ten bytes are enough for the digits
-text-short : (n : ℕ) {text : List ℕ} → n < 2 ^ 32 → text ≡ decimal n → length text ≤ 10
-text-short n h e = rw e (decimal-short n 9 (omega (arith, h)))
+abbrev Inv-loop : tie.InvT-loop
+Inv-loop out₀ at number end first₀ rest₀ out first rest =
+    (length out ≡ length out₀) × (first ≡ at + length (decimal rest)) × (first ≤ at + 10) × (placed out at (decimal rest) ≡ placed out₀ at (decimal number))
 
-decimal-requires : tie.Need-decimal-requires
-decimal-requires c κs = search needs
+abbrev μ-loop : tie.MeasureT-loop
+μ-loop out₀ at number end first₀ rest₀ out first rest = rest
 
-array-share-prefix-digits : tie.Need-array-share-prefix-digits
-array-share-prefix-digits c = search needs
+digits-requires : tie.Need-digits-requires Inv-loop μ-loop
+digits-requires c κs = search needs
 
-slice-aggregate-write-text : tie.Need-slice-aggregate-write-text
-slice-aggregate-write-text c = search needs
+add-end : tie.Need-add-end Inv-loop μ-loop
+add-end c = search needs
 
-write-text-requires : tie.Need-write-text-requires
-write-text-requires c κs =
-    let s = c .before .before .before .before .before in
-    let d = c .before .before .decimal in
-    let e = d .ensures .1 .1 ∙ decimal-fewest (s .args .number) (d .result) (d .ensures .1 .0) in
-    omega (arith, s .pre, text-short (s .args .number) (s .fits .number .fits) e)
+loop-holds : tie.Need-loop-holds Inv-loop μ-loop
+loop-holds c = (search needs, search needs, search needs, refl)
 
-same-length : tie.Need-same-length
+sub-first : tie.Need-sub-first Inv-loop μ-loop
+sub-first c = omega (arith, length-more (c .before .loop .rest) (search needs))
+
+cast-out : tie.Need-cast-out Inv-loop μ-loop
+cast-out c = search needs
+
+add-out : tie.Need-add-out Inv-loop μ-loop
+add-out c = search needs
+
+slice-write-out : tie.Need-slice-write-out Inv-loop μ-loop
+slice-write-out c = search needs
+
+loop-less : tie.Need-loop-less Inv-loop μ-loop
+loop-less c = search needs
+
+loop-again : tie.Need-loop-again Inv-loop μ-loop
+loop-again c =
+    let a = c .before .before .before .before .args in
+    let l = c .before .loop in
+    let ten : 10 ≤ l .rest = search needs in
+    let e : l .first - 1 ≡ a .at + length (decimal (l .rest / 10)) = omega (arith, length-more (l .rest) ten) in (
+      search needs,
+      e,
+      search needs,
+      placed-last (l .out) (a .at) (decimal (l .rest / 10)) (48 + l .rest % 10) e (search needs) ∙ ap (placed (l .out) (a .at)) (sym (decimal-more (l .rest) ten)) ∙ l .inv .3,
+    )
+
+cast-out-2 : tie.Need-cast-out-2 Inv-loop μ-loop
+cast-out-2 c = search needs
+
+add-out-2 : tie.Need-add-out-2 Inv-loop μ-loop
+add-out-2 c = search needs
+
+slice-write-out-2 : tie.Need-slice-write-out-2 Inv-loop μ-loop
+slice-write-out-2 c = search needs
+
+same-length : tie.Need-same-length Inv-loop μ-loop
 same-length c = search needs
 
-returns : tie.Need-returns
+returns : tie.Need-returns Inv-loop μ-loop
 returns c =
-    let s = c .before .before .before .before .before .before .before .before in
-    let d = c .before .before .before .before .before .decimal in
-    let e = d .ensures .1 .1 ∙ decimal-fewest (s .args .number) (d .result) (d .ensures .1 .0) in
-    let w = c .before .before .write-text .ensures in
-    (wrote-as e w, omega (arith, w .offset, text-short (s .args .number) (s .fits .number .fits) e))
+    let a = c .before .before .before .before .args in
+    let l = c .before .loop in (
+      record {
+        contents =
+            placed-one (l .out) (a .at) (48 + l .rest) (search needs) ∙ ap (placed (l .out) (a .at)) (sym (decimal-one (l .rest) (search needs))) ∙ l .inv .3;
+        offset = search needs;
+      },
+      search needs,
+    )
 
 pub write-number-spec : {M : Type 1} → statement M
 write-number-spec =
     tie.close
     (tie.spec
-    decimal-requires
-    array-share-prefix-digits
-    slice-aggregate-write-text
-    write-text-requires
+    Inv-loop
+    μ-loop
+    digits-requires
+    add-end
+    loop-holds
+    sub-first
+    cast-out
+    add-out
+    slice-write-out
+    loop-less
+    loop-again
+    cast-out-2
+    add-out-2
+    slice-write-out-2
     same-length
     returns)
