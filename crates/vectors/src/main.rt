@@ -9,6 +9,7 @@ use comparison::NEWLINE;
 use comparison::Totals;
 use comparison::Verdict;
 use comparison::counted;
+use input::read_behind;
 use io::print_decimal;
 use io::write_all;
 use judging::judge;
@@ -20,25 +21,26 @@ ghost use lib.ListN.{length};
 ghost use Rattle.io.specs.Counts.{Counts};
 ghost use Rattle.comparison.specs.Compare.{isSame};
 
-// The longest walk file is one byte shorter.
-const WALK_BYTES: usize = 65537;
+// Each buffer has room for a byte more than its longest file, so that the file's end shows.
+const WALK_BYTES: usize = 65538;
+
+const STORED_BYTES: usize = LISTING_BYTES + 1;
 
 const LIST_BYTES: usize = 65536;
 
-// How many bytes of a file were read; a line if they are not all of it. `read_full` does not tell the end of a file from a
-// failure, so one more read has to find the end.
+// How many bytes of a file were read; a line if they are not all of it, or if it fills the buffer, so that its end does not
+// show.
 fn read_file(path: &[u8], buffer: &mut [u8]) -> usize
     ensures { λ r. ⌜ Counts r (now (buffer .exit)) ⌝ }
 {
     let fd = os::open_read(path);
-    let count = io::read_full(fd, buffer);
-    let mut past = [0u8; 1];
-    if libc::read(fd, &mut past) != 0 {
+    let input = read_behind(fd, buffer, 0);
+    if input.last != 0 {
         write_all(STDOUT_FILENO, path);
         write_all(STDOUT_FILENO, b": cannot be read whole\n");
     }
     libc::close(fd);
-    count
+    input.count
 }
 
 // Whether the verdict is that a walk agrees; a line if not.
@@ -59,7 +61,7 @@ fn told(walk: &[u8], verdict: Verdict) -> bool
 
 fn agrees(walk: &[u8], listing: &[u8]) -> bool {
     let mut file = [0u8; WALK_BYTES];
-    let mut stored = [0u8; LISTING_BYTES];
+    let mut stored = [0u8; STORED_BYTES];
     let end = read_file(walk, &mut file);
     let listing_end = read_file(listing, &mut stored);
     told(walk, judge(&file[..end], &stored[..listing_end]))

@@ -9,11 +9,11 @@ use Rattle.walkfile.specs.Promises.{counts}
 use Rattle.walk.proofs.main.Statement.{statement}
 use Rattle.walk.proofs.main.Tie as tie
 
-slice-aggregate-read-input : tie.Need-slice-aggregate-read-input
-slice-aggregate-read-input c = search needs
+slice-aggregate-read-behind : tie.Need-slice-aggregate-read-behind
+slice-aggregate-read-behind c = search needs
 
-read-input-requires : tie.Need-read-input-requires
-read-input-requires c κs = search needs
+read-behind-requires : tie.Need-read-behind-requires
+read-behind-requires c κs = search needs
 
 slice-aggregate-fail : tie.Need-slice-aggregate-fail
 slice-aggregate-fail c = search needs
@@ -76,8 +76,8 @@ pub main-spec : {M : Type 1} → statement M
 main-spec =
     tie.close
     (tie.spec
-    slice-aggregate-read-input
-    read-input-requires
+    slice-aggregate-read-behind
+    read-behind-requires
     slice-aggregate-fail
     fail-requires
     returns

@@ -1,0 +1,2 @@
+-- What reading into a buffer keeps, and what it adds.
+pub mod Reads
