@@ -93,25 +93,16 @@ module _ (h : Realm) (s : Step) where
 
     pub not-zero : unusedZero (usesOf (s .step)) s ≡ false → _≡_ {A = ℕ} 5 (inputRefusal h s)
     unfolding inputRefusal
-    not-zero e = picked _ _ (inRange h (usesOf (s .step)) s) step e
-      where
-        picked : (a b c : Bool) → a ≡ true → b ≡ false → _≡_ {A = ℕ} 5 (cond a (cond b (cond c 0 6) 5) 4)
-        picked a b c p q = rw (p, q)
+    not-zero e = rw (step, e)
 
     module _ (zero : unusedZero (usesOf (s .step)) s ≡ true) where
       pub not-in-range : inRange h (usesOf (s .step)) s ≡ false → _≡_ {A = ℕ} 6 (inputRefusal h s)
       unfolding inputRefusal
-      not-in-range e = picked _ _ _ step zero e
-        where
-          picked : (a b c : Bool) → a ≡ true → b ≡ true → c ≡ false → _≡_ {A = ℕ} 6 (cond a (cond b (cond c 0 6) 5) 4)
-          picked a b c p q r = rw (p, q, r)
+      not-in-range e = rw (step, zero, e)
 
       pub passes : inRange h (usesOf (s .step)) s ≡ true → _≡_ {A = ℕ} 0 (inputRefusal h s)
       unfolding inputRefusal
-      passes e = picked _ _ _ step zero e
-        where
-          picked : (a b c : Bool) → a ≡ true → b ≡ true → c ≡ true → _≡_ {A = ℕ} 0 (cond a (cond b (cond c 0 6) 5) 4)
-          picked a b c p q r = rw (p, q, r)
+      passes e = rw (step, zero, e)
 
 -- ---- what a step that passes has
 
