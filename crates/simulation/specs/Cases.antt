@@ -100,6 +100,10 @@ new = handed 0 100 10 [] 0
 
 -- ---- the cases
 
+-- from these tables the calls have these answers, and end so
+abbrev case : Tables → List Call → List Answer → End → Case
+case start calls answers end = record { start = start; calls = calls; says = record { answers = answers; end = end } }
+
 -- "ST 1 (a 1, b 2); ST 3 (m 4); ST 4 (run 0, m 11); ST 2 (a 1, b 2); TM 5 (15, 16)"
 abbrev exchanged : List Call
 exchanged = Step 1 0 1 2 0 0 ∷ Step 3 0 0 0 4 0 ∷ Step 4 0 0 0 11 0 ∷ Step 2 0 1 2 0 0 ∷ Term 5 15 16 ∷ []
@@ -110,83 +114,49 @@ exchange-answers = OkRun 0 ∷ OkRun 1 ∷ OkRun 0 ∷ OkRun 2 ∷ Number 17 ∷
 -- "F"
 abbrev f : Case
 f =
-    record {
-      start = new;
-      calls = exchanged ++ (Step 5 2 0 0 17 0 ∷ Step 6 0 0 0 18 0 ∷ Step 2 0 1 2 0 0 ∷ Step 5 3 0 0 17 0 ∷ []);
-      says = record { answers = exchange-answers ++ (OkRun 2 ∷ OkRun 0 ∷ OkRun 3 ∷ Refused 18 ∷ []); end = ends 4 5 1 0 };
-    }
+    case new (exchanged ++ (Step 5 2 0 0 17 0 ∷ Step 6 0 0 0 18 0 ∷ Step 2 0 1 2 0 0 ∷ Step 5 3 0 0 17 0 ∷ []))
+    (exchange-answers ++ (OkRun 2 ∷ OkRun 0 ∷ OkRun 3 ∷ Refused 18 ∷ [])) (ends 4 5 1 0)
 
 -- "A: Ts 0, Ls 100: clock 99 passes, 100 gives 16."
 abbrev a : (clock : ℕ) → Answer → (wire : ℕ) → Case
 a clock answer wire =
-    record {
-      start = new;
-      calls = Step 1 0 1 2 0 0 ∷ Step 3 0 0 0 4 0 ∷ Step 7 0 0 0 0 clock ∷ Step 4 0 0 0 11 0 ∷ [];
-      says = record { answers = OkRun 0 ∷ OkRun 1 ∷ Ok ∷ answer ∷ []; end = ends 2 wire 0 clock };
-    }
+    case new (Step 1 0 1 2 0 0 ∷ Step 3 0 0 0 4 0 ∷ Step 7 0 0 0 0 clock ∷ Step 4 0 0 0 11 0 ∷ []) (OkRun 0 ∷ OkRun 1 ∷ Ok ∷ answer ∷ []) (ends 2 wire 0 clock)
 
 -- "B: Ta 0, La 10: clock 9 passes, 10 gives 17."
 abbrev b : (clock : ℕ) → Answer → (wire entries : ℕ) → Case
 b clock answer wire entries =
-    record {
-      start = new;
-      calls = exchanged ++ (Step 7 0 0 0 0 clock ∷ Step 5 2 0 0 17 0 ∷ []);
-      says = record { answers = exchange-answers ++ (Ok ∷ answer ∷ []); end = ends 3 wire entries clock };
-    }
+    case new (exchanged ++ (Step 7 0 0 0 0 clock ∷ Step 5 2 0 0 17 0 ∷ [])) (exchange-answers ++ (Ok ∷ answer ∷ [])) (ends 3 wire entries clock)
 
 -- "C: that entry survives step 8 at clock 9 and goes at 10."
 abbrev c : (clock entries : ℕ) → Case
 c clock entries =
-    record {
-      start = new;
-      calls = exchanged ++ (Step 5 2 0 0 17 0 ∷ Step 7 0 0 0 0 clock ∷ Step 8 0 0 2 0 0 ∷ []);
-      says = record { answers = exchange-answers ++ (OkRun 2 ∷ Ok ∷ Ok ∷ []); end = ends 3 5 entries clock };
-    }
+    case new (exchanged ++ (Step 5 2 0 0 17 0 ∷ Step 7 0 0 0 0 clock ∷ Step 8 0 0 2 0 0 ∷ [])) (exchange-answers ++ (OkRun 2 ∷ Ok ∷ Ok ∷ [])) (ends 3 5 entries clock)
 
 -- "D: step 7 to the same clock is accepted; one less gives 12."
 abbrev d : Case
-d =
-    record {
-      start = new;
-      calls = Step 7 0 0 0 0 5 ∷ Step 7 0 0 0 0 5 ∷ Step 7 0 0 0 0 4 ∷ [];
-      says = record { answers = Ok ∷ Ok ∷ Refused 12 ∷ []; end = ends 0 0 0 5 };
-    }
+d = case new (Step 7 0 0 0 0 5 ∷ Step 7 0 0 0 0 5 ∷ Step 7 0 0 0 0 4 ∷ []) (Ok ∷ Ok ∷ Refused 12 ∷ []) (ends 0 0 0 5)
 
 -- "E: nothing on the wire: time 0 and a pair of two parties can be built, a good party's key cannot."
 abbrev e : Case
 e =
-    record {
-      start = handed 0 100 10 (words.Time 0 ∷ words.Principal 1 ∷ words.Principal 2 ∷ words.Pair 1 2 ∷ words.LongTermKey 1 ∷ []) 0;
-      calls = Step 10 0 0 0 0 0 ∷ Step 10 0 0 0 3 0 ∷ Step 10 0 0 0 4 0 ∷ [];
-      says = record { answers = Ok ∷ Ok ∷ Refused 15 ∷ []; end = ends 0 0 0 0 };
-    }
+    case (handed 0 100 10 (words.Time 0 ∷ words.Principal 1 ∷ words.Principal 2 ∷ words.Pair 1 2 ∷ words.LongTermKey 1 ∷ []) 0)
+    (Step 10 0 0 0 0 0 ∷ Step 10 0 0 0 3 0 ∷ Step 10 0 0 0 4 0 ∷ []) (Ok ∷ Ok ∷ Refused 15 ∷ []) (ends 0 0 0 0)
 
 -- "G: only {key 1}key 1 on the wire: key 1 cannot be built."
 abbrev g : Case
-g =
-    record {
-      start = handed 0 100 10 (words.SessionKey 1 ∷ words.Encrypted 0 0 ∷ []) 2;
-      calls = Step 10 0 0 0 0 0 ∷ [];
-      says = record { answers = Refused 15 ∷ []; end = ends 0 1 0 0 };
-    }
+g = case (handed 0 100 10 (words.SessionKey 1 ∷ words.Encrypted 0 0 ∷ []) 2) (Step 10 0 0 0 0 0 ∷ []) (Refused 15 ∷ []) (ends 0 1 0 0)
 
 -- "H: {key 2}key 1 and key 1 under a bad party's key: key 2 can be built." The bad principal is 2.
 abbrev h : Case
 h =
-    record {
-      start = handed 4 100 10 (words.SessionKey 1 ∷ words.SessionKey 2 ∷ words.Encrypted 1 0 ∷ words.LongTermKey 2 ∷ words.Encrypted 0 3 ∷ []) 20;
-      calls = Step 10 0 0 0 1 0 ∷ [];
-      says = record { answers = Ok ∷ []; end = ends 0 2 0 0 };
-    }
+    case (handed 4 100 10 (words.SessionKey 1 ∷ words.SessionKey 2 ∷ words.Encrypted 1 0 ∷ words.LongTermKey 2 ∷ words.Encrypted 0 3 ∷ []) 20)
+    (Step 10 0 0 0 1 0 ∷ []) (Ok ∷ []) (ends 0 2 0 0)
 
 -- "I: only {nonce 0}key 1 on the wire: that lock can be built, nonce 0 cannot."
 abbrev i : Case
 i =
-    record {
-      start = handed 0 100 10 (words.Nonce 0 ∷ words.SessionKey 1 ∷ words.Encrypted 0 1 ∷ []) 4;
-      calls = Step 10 0 0 0 2 0 ∷ Step 10 0 0 0 0 0 ∷ [];
-      says = record { answers = Ok ∷ Refused 15 ∷ []; end = ends 0 1 0 0 };
-    }
+    case (handed 0 100 10 (words.Nonce 0 ∷ words.SessionKey 1 ∷ words.Encrypted 0 1 ∷ []) 4)
+    (Step 10 0 0 0 2 0 ∷ Step 10 0 0 0 0 0 ∷ []) (Ok ∷ Refused 15 ∷ []) (ends 0 1 0 0)
 
 -- ---- the table and its theorem
 
