@@ -2,10 +2,11 @@
 -- Assumes nothing.
 use Prim.Native.Nat.{ℕ}
 use mathlib.Core.Path.{_≡_, refl, sym, ap, subst, _∙_}
-use mathlib.Core.Bool.{Bool, true, false, cond}
+use mathlib.Core.Bool.{true}
 use mathlib.Core.Logic.{_↔_}
 use lib.Dec.{eqb}
 use lib.ListN.{length}
+use Rattle.terms.specs.Choice.{cond-elim}
 use Rattle.terms.specs.Message.{session, key}
 use Rattle.exchange.specs.declared.call.Answer.{Answer}
 use Rattle.exchange.specs.declared.call.Answer.the-variants.{Refused}
@@ -31,19 +32,14 @@ use Rattle.simulation.specs.Values.{valuesOf}
 use Rattle.calls.specs.Lent.{lentCall}
 use Rattle.calls.specs.Same.{lent-called}
 
-module _ (t : Tables) (c : Call) {k : ℕ} where
-  by-check : (b : Bool) → cond b (called t c) (refuse t 10) .answer ≡ Refused k → cond b (called t c) (refuse t 10) .tables ≡ t
-  by-check true e = effects.refused-kept t c e
-  by-check false e = refl
+abbrev Keeps : Tables → (k : ℕ) → Outcome → Type 0
+Keeps t k o = o .answer ≡ Refused k → o .tables ≡ t
 
-  by-length : (b : Bool) → cond b (checked t c) (refuse t 10) .answer ≡ Refused k → cond b (checked t c) (refuse t 10) .tables ≡ t
-  unfolding checked
-  by-length true e = by-check (together t) e
-  by-length false e = refl
-
-  pub refused-kept : lentCall t c .answer ≡ Refused k → lentCall t c .tables ≡ t
-  unfolding lentCall
-  refused-kept e = by-length (eqb (length (t .cache)) 16) e
+pub refused-kept : (t : Tables) (c : Call) {k : ℕ} → lentCall t c .answer ≡ Refused k → lentCall t c .tables ≡ t
+unfolding lentCall checked
+refused-kept t c {k} =
+    cond-elim (Keeps t k) (eqb (length (t .cache)) 16) (checked t c) (refuse t 10)
+    (λ _. cond-elim (Keeps t k) (together t) (called t c) (refuse t 10) (λ _. effects.refused-kept t c) (λ _ e. refl)) (λ _ e. refl)
 
 module _ (t : Tables) (c : Call) (w : Together t) where
   same-answer : lentCall t c .answer ≡ called t c .answer
