@@ -10,9 +10,10 @@ use native.Mathlib.Omega.{arith}
 use lib.ListN.{getD}
 use Rattle.marks.specs.Marks.{marked}
 use Rattle.words.specs.declared.Term.{Term}
-use Rattle.words.specs.declared.Term.the-variants.{Principal, Time, Nonce, LongTermKey, SessionKey, Pair, Encrypted, Unknown}
+use Rattle.words.specs.declared.Term.the-variants.{Encrypted}
 use Rattle.terms.specs.Choice.{cond-elim, no-true}
 use Rattle.terms.specs.Meaning.{Under, under-at}
+use Rattle.terms.specs.Operands.{operands-elim}
 use Rattle.terms.specs.Rules.{termAt, isKey}
 use Rattle.terms.specs.Valid.{Valid, fields-of}
 use Rattle.worklist.specs.Chains.{LastUnder, Linked}
@@ -64,14 +65,9 @@ under-end {n} {ts} v k (suc m) h f l = by (isUnder k (termAt ts m)) refl (under-
 -- ---- the walk
 
 decrypt-room : (f : Found) (e : ℕ) (t : Term) → Under 512 t → Room f → Room (decryptOf f e t)
-decrypt-room f e (Principal p) u r = r
-decrypt-room f e (Time t) u r = r
-decrypt-room f e (Nonce n) u r = r
-decrypt-room f e (LongTermKey p) u r = r
-decrypt-room f e (SessionKey n) u r = r
-decrypt-room f e (Pair l r) u room = room
-decrypt-room f e (Encrypted b k) u r = cond-elim Room (marked (f .known) e) (learnOf f b) f (λ _. learn-room f b (u .0) r) (λ _. r)
-decrypt-room f e Unknown u r = r
+decrypt-room f e t u r =
+    operands-elim Room f (λ l r. f) (λ b k. cond (marked (f .known) e) (learnOf f b) f) t r (λ l r′ q. r)
+    (λ b k q. cond-elim Room (marked (f .known) e) (learnOf f b) f (λ _. learn-room f b (subst (Under 512) q u .0) r) (λ _. r))
 
 module _ {ts : List ℕ} {count : ℕ} {c : List ℕ} (l : Linked ts count c) (k : ℕ) where
   pub along-start : k < count → isKey (termAt ts k) ≡ true → {f : Found} → Room f → Along ts count k f f (getD c k 0)

@@ -2,7 +2,7 @@
 -- behind the others. When all have been looked at the set is saturated.
 -- Assumes nothing.
 use mathlib.Core.Path.{_≡_, refl, sym, ap, _∙_, subst}
-use mathlib.Core.Logic.{_⊎_, inl, inr, ⊎-elim}
+use mathlib.Core.Logic.{_⊎_, inl, inr, ⊎-elim, dite}
 use mathlib.Core.Bool.{true, cond}
 use mathlib.Core.List.{List}
 use Prim.Native.Nat.{ℕ, zero, suc, _+_, _<_, _≤_}
@@ -41,19 +41,12 @@ module _ (flags : ℕ) {n : ℕ} {ts : List ℕ} {count : ℕ} (v : Valid n ts c
   pub started : (f : Found) → Work n flags ts count ws f → (m : ℕ) → m ≤ count → (i : ℕ) → i < m → marked ws i ≡ true → marked (startOf ws m f .known) i ≡ true
   unfolding startOf
   started f w zero h i lt e = absurd (omega arith)
-  started f w (suc m) h i lt e = by (ℕ-discrete i m) (started f w m (omega arith) i)
-    where
-      g : Found
-      g = startOf ws m f
-
-      at : Work n flags ts count ws g
-      at = start-work f w m (omega arith)
-
-      by : Dec (i ≡ m) → (i < m → marked ws i ≡ true → marked (g .known) i ≡ true) → marked (cond (marked ws m) (learnOf g m) g .known) i ≡ true
-      by (yes s) rest =
-          let e′ : marked ws m ≡ true = subst (λ (x : ℕ). marked ws x ≡ true) s e in
-          rw (s, e′) (learn-marks g m (omega (arith, v .room)) (at .listed .room))
-      by (no ne) rest = start-one g at m h .more .keeps i (rest (omega arith) e)
+  started f w (suc m) h i lt e =
+      let g = startOf ws m f in
+      let at = start-work f w m (omega arith) in
+      dite (ℕ-discrete i m)
+      (λ s. rw (s, subst (λ (x : ℕ). marked ws x ≡ true) s e) (learn-marks g m (omega (arith, v .room)) (at .listed .room)))
+      (λ ne. start-one g at m h .more .keeps i (started f w m (omega arith) i (omega arith) e))
 
 -- ---- the terms that have been looked at
 
@@ -95,24 +88,22 @@ module _ (flags : ℕ) {n : ℕ} {ts : List ℕ} {count : ℕ} (v : Valid n ts c
     done-next : Done flags ts f d → Done flags ts g (d + 1)
     done-next done =
         record {
-          halves = λ j l r lt e. halves j l r lt (ap (termAt ts) (sym (kept j (omega arith))) ∙ e) (ℕ-discrete j d);
-          public = λ j b k lt e p. public j b k lt (ap (termAt ts) (sym (kept j (omega arith))) ∙ e) p (ℕ-discrete j d);
+          halves = λ j l r lt e.
+              let e′ = ap (termAt ts) (sym (kept j (omega arith))) ∙ e in
+              dite (ℕ-discrete j d)
+              (λ s. given-halves flags v ws f w i next-below next-marked l r (subst (λ (x : ℕ). termAt ts (getD (f .list) x 0) ≡ Pair l r) s e′))
+              (λ ne. let x = done .halves j l r (omega arith) e′ in (next-step .more .keeps l (x .0), next-step .more .keeps r (x .1)));
+          public = λ j b k lt e p.
+              let e′ = ap (termAt ts) (sym (kept j (omega arith))) ∙ e in
+              dite (ℕ-discrete j d)
+              (λ s.
+              given-body flags v ws f w i next-below next-marked b k (subst (λ (x : ℕ). termAt ts (getD (f .list) x 0) ≡ Encrypted b k) s e′)
+              (opens-if flags ts (f .known) k (inr p)))
+              (λ ne. next-step .more .keeps b (done .public j b k (omega arith) e′ p));
           opened = λ j j′ b k lt lt′ e e′.
               opened j j′ b k lt lt′ (ap (termAt ts) (sym (kept j (omega arith))) ∙ e) (sym (kept j′ (omega arith)) ∙ e′) (ℕ-discrete j d) (ℕ-discrete j′ d);
         }
       where
-        halves : (j l r : ℕ) → j < d + 1 → termAt ts (getD (f .list) j 0) ≡ Pair l r → Dec (j ≡ d) → (marked (g .known) l ≡ true) × (marked (g .known) r ≡ true)
-        halves j l r lt e (yes s) = given-halves flags v ws f w i next-below next-marked l r (subst (λ (x : ℕ). termAt ts (getD (f .list) x 0) ≡ Pair l r) s e)
-        halves j l r lt e (no ne) =
-            let x = done .halves j l r (omega arith) e in
-            (next-step .more .keeps l (x .0), next-step .more .keeps r (x .1))
-
-        public : (j b k : ℕ) → j < d + 1 → termAt ts (getD (f .list) j 0) ≡ Encrypted b k → publicOf flags (termAt ts k) ≡ true → Dec (j ≡ d)
-            → marked (g .known) b ≡ true
-        public j b k lt e p (yes s) =
-            given-body flags v ws f w i next-below next-marked b k (subst (λ (x : ℕ). termAt ts (getD (f .list) x 0) ≡ Encrypted b k) s e) (opens-if flags ts (f .known) k (inr p))
-        public j b k lt e p (no ne) = next-step .more .keeps b (done .public j b k (omega arith) e p)
-
         opened : (j j′ b k : ℕ) → j < d + 1 → j′ < d + 1 → termAt ts (getD (f .list) j 0) ≡ Encrypted b k → getD (f .list) j′ 0 ≡ k
             → Dec (j ≡ d) → Dec (j′ ≡ d) → marked (g .known) b ≡ true
         opened j j′ b k lt lt′ e e′ (yes s) (yes s′) =

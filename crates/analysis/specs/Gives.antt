@@ -1,8 +1,8 @@
 -- What a found term gives: a pair its halves, an encryption its body where the key has been found or is public, and a key the
 -- bodies of the encryptions under it that have been found. Nothing becomes known that cannot be derived.
 -- Assumes nothing.
-use mathlib.Core.Path.{_≡_, refl, sym, ap, subst}
-use mathlib.Core.Logic.{_⊎_, ⊎-elim}
+use mathlib.Core.Path.{_≡_, refl, sym, ap, subst, _∙_}
+use mathlib.Core.Logic.{_⊎_, ⊎-elim, dite}
 use mathlib.Core.Bool.{Bool, true, false, cond}
 use mathlib.Core.List.{List}
 use Prim.Native.Nat.{ℕ, zero, suc, _<_, _≤_}
@@ -13,8 +13,9 @@ use borrow.Author.Tests.{eqb-true, eq-eqb}
 use lib.Dec.{eqb}
 use Rattle.marks.specs.Marks.{marked}
 use Rattle.words.specs.declared.Term.{Term}
-use Rattle.words.specs.declared.Term.the-variants.{Principal, Time, Nonce, LongTermKey, SessionKey, Pair, Encrypted, Unknown}
+use Rattle.words.specs.declared.Term.the-variants.{Pair, Encrypted}
 use Rattle.terms.specs.Choice.{cond-elim, no-true}
+use Rattle.terms.specs.Operands.{byOperands, operands-elim}
 use Rattle.terms.specs.Rules.{termAt, isKey}
 use Rattle.terms.specs.Valid.{Valid, fields-of}
 use Rattle.worklist.specs.Found.{Found, learnOf, Listed, More, more-refl, more-trans, learn-marks, learn-more, learn-new, learn-listed}
@@ -25,25 +26,11 @@ use Rattle.deduction.specs.Opens.{opensOf, key-sure, left-sure, right-sure, bod
 
 -- the term is an encryption under key k
 abbrev pub isUnder : ℕ → Term → Bool
-isUnder k (Principal p) = false
-isUnder k (Time t) = false
-isUnder k (Nonce i) = false
-isUnder k (LongTermKey p) = false
-isUnder k (SessionKey i) = false
-isUnder k (Pair l r) = false
-isUnder k (Encrypted b j) = eqb j k
-isUnder k Unknown = false
+isUnder k = byOperands false (λ l r. false) (λ b j. eqb j k)
 
 -- term e is decrypted, if it is an encryption that has been found
 abbrev pub decryptOf : Found → ℕ → Term → Found
-decryptOf f e (Principal p) = f
-decryptOf f e (Time t) = f
-decryptOf f e (Nonce i) = f
-decryptOf f e (LongTermKey p) = f
-decryptOf f e (SessionKey i) = f
-decryptOf f e (Pair l r) = f
-decryptOf f e (Encrypted b k) = cond (marked (f .known) e) (learnOf f b) f
-decryptOf f e Unknown = f
+decryptOf f e = byOperands f (λ l r. f) (λ b k. cond (marked (f .known) e) (learnOf f b) f)
 
 -- the encryptions under key k, of the terms below m, the last first
 unfoldable pub underOf : List ℕ → (k m : ℕ) → Found → Found
@@ -52,14 +39,7 @@ underOf ts k (suc m) f = underOf ts k m (cond (isUnder k (termAt ts m)) (decrypt
 
 -- what a pair and an encryption give
 abbrev pub partsOf : (flags : ℕ) (ts : List ℕ) → Found → Term → Found
-partsOf flags ts f (Principal p) = f
-partsOf flags ts f (Time t) = f
-partsOf flags ts f (Nonce n) = f
-partsOf flags ts f (LongTermKey p) = f
-partsOf flags ts f (SessionKey n) = f
-partsOf flags ts f (Pair l r) = learnOf (learnOf f l) r
-partsOf flags ts f (Encrypted b k) = cond (opensOf flags ts (f .known) k) (learnOf f b) f
-partsOf flags ts f Unknown = f
+partsOf flags ts f = byOperands f (λ l r. learnOf (learnOf f l) r) (λ b k. cond (opensOf flags ts (f .known) k) (learnOf f b) f)
 
 -- what term i, of `count`, gives
 abbrev pub givenOf : (flags : ℕ) (ts : List ℕ) (count : ℕ) → Found → ℕ → Found
@@ -78,14 +58,9 @@ pub record Step (n flags : ℕ) (ts : List ℕ) (count : ℕ) (ws : List ℕ) (f
 -- ---- an encryption under a key
 
 pub is-under : (k : ℕ) (t : Term) → isUnder k t ≡ true → (b : ℕ) × (t ≡ Encrypted b k)
-is-under k (Principal p) e = no-true e
-is-under k (Time t) e = no-true e
-is-under k (Nonce i) e = no-true e
-is-under k (LongTermKey p) e = no-true e
-is-under k (SessionKey i) e = no-true e
-is-under k (Pair l r) e = no-true e
-is-under k (Encrypted b j) e = (b, ap (λ (x : ℕ). Encrypted b x) (eqb-true j k e))
-is-under k Unknown e = no-true e
+is-under k t =
+    operands-elim (λ (u : Bool). u ≡ true → (b : ℕ) × (t ≡ Encrypted b k)) false (λ l r. false) (λ b j. eqb j k) t no-true (λ l r e. no-true)
+    (λ b j e u. (b, e ∙ ap (Encrypted b) (eqb-true j k u)))
 
 pub under-is : (k b : ℕ) (t : Term) → t ≡ Encrypted b k → isUnder k t ≡ true
 under-is k b t e = rw e (eq-eqb k k refl)
@@ -166,24 +141,18 @@ module _ (flags : ℕ) {n : ℕ} {ts : List ℕ} {count : ℕ} (v : Valid n ts c
       let one = one-step w m k h dk in
       step-trans one (under-step (cond (isUnder k (termAt ts m)) (decryptOf f m (termAt ts m)) f) (one .work) k m (omega arith) dk)
 
-  parts-by : {f : Found} → Work n flags ts count ws f → (i : ℕ) → i < count → marked (f .known) i ≡ true → (t : Term) → termAt ts i ≡ t
-      → Next f (partsOf flags ts f t)
-  parts-by w i h m (Principal p) e = step-refl w
-  parts-by w i h m (Time t) e = step-refl w
-  parts-by w i h m (Nonce k) e = step-refl w
-  parts-by w i h m (LongTermKey p) e = step-refl w
-  parts-by w i h m (SessionKey k) e = step-refl w
-  parts-by w i h m (Pair l r) e =
-      let f = fields-of (v .terms) i h e in
-      let d = w .sound i h m in
-      let first = learn-step w l (omega (arith, f .0)) (left-sure flags v (Known ts count ws) i h l r e d) in
-      step-trans first (learn-step (first .work) r (omega (arith, f .1)) (right-sure flags v (Known ts count ws) i h l r e d))
-  parts-by {f} w i h m (Encrypted b k) e =
+  parts-step : {f : Found} → Work n flags ts count ws f → (i : ℕ) → i < count → marked (f .known) i ≡ true → Next f (partsOf flags ts f (termAt ts i))
+  parts-step {f} w i h m =
+      operands-elim (Next f) f (λ l r. learnOf (learnOf f l) r) (λ b k. cond (opensOf flags ts (f .known) k) (learnOf f b) f) (termAt ts i) (step-refl w)
+      (λ l r e.
+      let low = fields-of (v .terms) i h e in
+      let first = learn-step w l (omega (arith, low .0)) (left-sure flags v (Known ts count ws) i h l r e (w .sound i h m)) in
+      step-trans first (learn-step (first .work) r (omega (arith, low .1)) (right-sure flags v (Known ts count ws) i h l r e (w .sound i h m))))
+      (λ b k e.
       let low = fields-of (v .terms) i h e in
       cond-elim (Next f) (opensOf flags ts (f .known) k) (learnOf f b) f
       (λ o. learn-step w b (omega (arith, low .0)) (body-sure flags v (Known ts count ws) i h b k e (w .sound i h m) (key-sure flags v (Known ts count ws) (f .known) (w .sound) k (omega (arith, low .1)) o)))
-      (λ _. step-refl w)
-  parts-by w i h m Unknown e = step-refl w
+      (λ _. step-refl w))
 
   -- ---- and all that the term gives
 
@@ -191,7 +160,7 @@ module _ (flags : ℕ) {n : ℕ} {ts : List ℕ} {count : ℕ} (v : Valid n ts c
     pub given-step : Next f (givenOf flags ts count f i)
     given-step =
         cond-elim (Next f) (isKey (termAt ts i)) (underOf ts i count f) (partsOf flags ts f (termAt ts i))
-        (λ _. under-step f w i count (le-refl count) (w .sound i h m)) (λ _. parts-by w i h m (termAt ts i) refl)
+        (λ _. under-step f w i count (le-refl count) (w .sound i h m)) (λ _. parts-step w i h m)
 
     pub given-halves : (l r : ℕ) → termAt ts i ≡ Pair l r → (marked (givenOf flags ts count f i .known) l ≡ true) × (marked (givenOf flags ts count f i .known) r ≡ true)
     given-halves l r e =
@@ -211,24 +180,17 @@ module _ (flags : ℕ) {n : ℕ} {ts : List ℕ} {count : ℕ} (v : Valid n ts c
       → marked (f .known) e ≡ true → marked (underOf ts k m f .known) b ≡ true
   unfolding underOf
   under-opens f w k zero h dk e b lt q m = absurd (omega arith)
-  under-opens f w k (suc j) h dk e b lt q m = by (ℕ-discrete e j) (under-opens g (one .work) k j (omega arith) dk e b)
-    where
-      g : Found
-      g = cond (isUnder k (termAt ts j)) (decryptOf f j (termAt ts j)) f
-
-      one : Next f g
-      one = one-step w j k h dk
-
-      here : e ≡ j → marked (g .known) b ≡ true
-      here s =
-          let q′ : termAt ts j ≡ Encrypted b k = subst (λ (x : ℕ). termAt ts x ≡ Encrypted b k) s q in
-          let m′ : marked (f .known) j ≡ true = subst (λ (x : ℕ). marked (f .known) x ≡ true) s m in
-          rw (q′, eq-eqb k k refl, m′) (learn-marks f b (omega (arith, fields-of (v .terms) j h q′ .0, v .room)) (w .listed .room))
-
-      by : Dec (e ≡ j) → (e < j → termAt ts e ≡ Encrypted b k → marked (g .known) e ≡ true → marked (underOf ts k j g .known) b ≡ true)
-          → marked (underOf ts k j g .known) b ≡ true
-      by (yes s) rest = under-step g (one .work) k j (omega arith) dk .more .keeps b (here s)
-      by (no ne) rest = rest (omega arith) q (one .more .keeps e m)
+  under-opens f w k (suc j) h dk e b lt q m =
+      let g = cond (isUnder k (termAt ts j)) (decryptOf f j (termAt ts j)) f in
+      let one : Next f g = one-step w j k h dk in
+      dite (ℕ-discrete e j)
+      (λ s.
+      let q′ : termAt ts j ≡ Encrypted b k = subst (λ (x : ℕ). termAt ts x ≡ Encrypted b k) s q in
+      let m′ : marked (f .known) j ≡ true = subst (λ (x : ℕ). marked (f .known) x ≡ true) s m in
+      let here : marked (g .known) b ≡ true =
+      rw (q′, eq-eqb k k refl, m′) (learn-marks f b (omega (arith, fields-of (v .terms) j h q′ .0, v .room)) (w .listed .room)) in
+      under-step g (one .work) k j (omega arith) dk .more .keeps b here)
+      (λ ne. under-opens g (one .work) k j (omega arith) dk e b (omega arith) q (one .more .keeps e m))
 
   pub given-under : (f : Found) → Work n flags ts count ws f → (i : ℕ) → i < count → marked (f .known) i ≡ true → (e b : ℕ) → e < count
       → termAt ts e ≡ Encrypted b i → marked (f .known) e ≡ true → marked (givenOf flags ts count f i .known) b ≡ true

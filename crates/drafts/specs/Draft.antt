@@ -4,10 +4,7 @@
 use mathlib.Core.Path.{_≡_, refl, ap, ap₂}
 use mathlib.Core.Bool.{Bool, true, _&&_, and-eq-true-iff}
 use mathlib.Core.List.{List}
-use Prim.Native.Nat.{ℕ, zero, suc, _+_, _<_}
-use native.Mathlib.Decide.{ℕ-discrete}
-use native.Mathlib.Omega.{arith}
-use native.Mathlib.Numerals.{add-one}
+use Prim.Native.Nat.{ℕ, _<_}
 use borrow.Author.Tests.{ltb-true}
 use lib.Dec.{ltb, leb}
 use lib.ListN.{getD}
@@ -18,6 +15,7 @@ use Rattle.drafts.specs.declared.Layer.the-variants as layer
 use Rattle.drafts.specs.declared.Node.{Node}
 use Rattle.drafts.specs.declared.Node.the-variants as node
 use Rattle.words.specs.declared.Term.the-variants.{Principal, Time, Nonce, LongTermKey, SessionKey}
+use Rattle.terms.specs.AllOf.{each, each-true, true-each}
 use Rattle.terms.specs.Descend.{descend, descend-at}
 use Rattle.terms.specs.Message.{Key, longTerm, session, Message, principal, time, nonce, key, pair, encrypted}
 use Rattle.words.specs.Word.{wordOf}
@@ -63,12 +61,8 @@ nodeFits n count k (node.Pair l r) = ltb l k && ltb r k
 nodeFits n count k (node.Encrypted b x) = ltb b k && keyFits n x
 nodeFits n count k (node.Stored i) = ltb i count
 
-unfoldable pub nodesFit : (n count : ℕ) → List Node → ℕ → Bool
-nodesFit n count draft zero = true
-nodesFit n count draft (suc m) = nodesFit n count draft m && nodeFits n count m (nodeAt draft m)
-
 unfoldable pub draftFits : (n count : ℕ) → List Node → Bool
-draftFits n count draft = nodesFit n count draft 16
+draftFits n count draft = each (λ k. nodeFits n count k (nodeAt draft k)) 16
 
 -- ---- a node as adding needs it
 
@@ -87,34 +81,14 @@ layerOf (node.Stored i) = layer.Stored i
 
 -- ---- laws
 
-fits-below : (n count : ℕ) (draft : List Node) (m : ℕ) → nodesFit n count draft m ≡ true → (k : ℕ) → k < m → nodeFits n count k (nodeAt draft k) ≡ true
-unfolding nodesFit
-fits-below n count draft zero e k h = absurd (omega arith)
-fits-below n count draft (suc m) e k h =
-    let b = and-eq-true-iff (nodesFit n count draft m) (nodeFits n count m (nodeAt draft m)) .0 e in
-    by-eq (fits-below n count draft m (b .0) k) (b .1) (ℕ-discrete k m)
-  where
-    by-eq : (k < m → nodeFits n count k (nodeAt draft k) ≡ true) → nodeFits n count m (nodeAt draft m) ≡ true → Dec (k ≡ m)
-        → nodeFits n count k (nodeAt draft k) ≡ true
-    by-eq below last (yes q) = rw q last
-    by-eq below last (no ne) = below (omega arith)
+module _ (n count : ℕ) (draft : List Node) where
+  pub fits-at : draftFits n count draft ≡ true → (k : ℕ) → k < 16 → nodeFits n count k (nodeAt draft k) ≡ true
+  unfolding draftFits
+  fits-at = each-true (λ k. nodeFits n count k (nodeAt draft k)) 16
 
-pub fits-at : (n count : ℕ) (draft : List Node) → draftFits n count draft ≡ true → (k : ℕ) → k < 16 → nodeFits n count k (nodeAt draft k) ≡ true
-unfolding draftFits
-fits-at n count draft e k h = fits-below n count draft 16 e k h
-
-pub fits-none : (n count : ℕ) (draft : List Node) → nodesFit n count draft 0 ≡ true
-unfolding nodesFit
-fits-none n count draft = refl
-
-pub fits-more : (n count : ℕ) (draft : List Node) (m : ℕ) → nodesFit n count draft m ≡ true → nodeFits n count m (nodeAt draft m) ≡ true
-    → nodesFit n count draft (m + 1) ≡ true
-unfolding nodesFit
-fits-more n count draft m e f = rw add-one (and-eq-true-iff (nodesFit n count draft m) (nodeFits n count m (nodeAt draft m)) .1 (e, f))
-
-pub fits-all : (n count : ℕ) (draft : List Node) → nodesFit n count draft 16 ≡ draftFits n count draft
-unfolding draftFits
-fits-all n count draft = refl
+  pub all-fit : ((k : ℕ) → k < 16 → nodeFits n count k (nodeAt draft k) ≡ true) → draftFits n count draft ≡ true
+  unfolding draftFits
+  all-fit = true-each (λ k. nodeFits n count k (nodeAt draft k)) 16
 
 -- operands are earlier nodes, so a node's message is that of its operands' messages
 node-same : (stored : ℕ → Message) (n count k : ℕ) (x : Node) → nodeFits n count k x ≡ true → (f g : ℕ → Message) → ((j : ℕ) → j < k → f j ≡ g j)

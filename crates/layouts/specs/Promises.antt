@@ -5,7 +5,8 @@ use mathlib.Core.Bool.{true}
 use mathlib.Core.Path.{_≡_, refl}
 use Prim.Native.Nat.{ℕ, _<_, _≤_}
 use borrow.Author.Tests.{lt-ltb, le-leb}
-use Rattle.drafts.specs.Draft.{draftMessage, draftFits, nodesFit}
+use Rattle.terms.specs.AllOf.{each}
+use Rattle.drafts.specs.Draft.{draftMessage, draftFits}
 use Rattle.kerberos.specs.Messages.{parallel, request, reply, ticket, authenticator, confirmation}
 use Rattle.terms.specs.Descend.{descend, layers}
 use Rattle.terms.specs.Message.{session, Message, key}
@@ -41,21 +42,21 @@ module _ (stored : ℕ → Message) where
 -- where the fields are in range, the draft can be added
 module _ (n count : ℕ) where
   pub request-fits : (a b i : ℕ) → a < n → b < n → i ≤ 95 → draftFits n count (requestDraft a b i) ≡ true
-  unfolding requestDraft draftFits nodesFit
+  unfolding requestDraft draftFits each
   request-fits a b i p q r = rw (lt-ltb a n p, lt-ltb b n q, le-leb i 95 r)
 
   pub issue-fits : (k a b ts i : ℕ) → k ≤ 95 → a < n → b < n → ts ≤ 4294967295 → i ≤ 95 → draftFits n count (issueDraft k a b ts i) ≡ true
-  unfolding issueDraft draftFits nodesFit
+  unfolding issueDraft draftFits each
   issue-fits k a b ts i h p q t r = rw (le-leb k 95 h, lt-ltb b n q, le-leb ts 4294967295 t, le-leb i 95 r, lt-ltb a n p)
 
   pub authenticator-fits : (a ta k : ℕ) → a < n → ta ≤ 4294967295 → k ≤ 95 → draftFits n count (authenticatorDraft a ta k) ≡ true
-  unfolding authenticatorDraft draftFits nodesFit
+  unfolding authenticatorDraft draftFits each
   authenticator-fits a ta k p t h = rw (lt-ltb a n p, le-leb ta 4294967295 t, le-leb k 95 h)
 
   pub confirmation-fits : (ta k : ℕ) → ta ≤ 4294967295 → k ≤ 95 → draftFits n count (confirmationDraft ta k) ≡ true
-  unfolding confirmationDraft draftFits nodesFit
+  unfolding confirmationDraft draftFits each
   confirmation-fits ta k t h = rw (le-leb ta 4294967295 t, le-leb k 95 h)
 
   pub key-fits : (k : ℕ) → k ≤ 95 → draftFits n count (keyDraft k) ≡ true
-  unfolding keyDraft draftFits nodesFit
+  unfolding keyDraft draftFits each
   key-fits k h = rw (le-leb k 95 h)

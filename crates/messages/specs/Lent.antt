@@ -1,14 +1,14 @@
 -- The answer of `add_message`, and the table after it. A message is added entire or not at all: how many terms are new is
 -- read off `entered`, which knows no limit, and 20 is given exactly where they do not all fit in 512.
 -- Assumes nothing.
-use mathlib.Core.Path.{_≡_, sym, ap, ap₂, _∙_}
+use mathlib.Core.Path.{_≡_, sym, ap, ap₂, _∙_, refl}
 use mathlib.Core.Bool.{true, false, _&&_, cond}
 use mathlib.Core.List.{List, _++_, append-nil}
 use Prim.Native.Nat.{ℕ, _+_, _<_, _≤_}
 use native.Mathlib.Omega.{arith}
 use borrow.Author.Tests.{le-leb, lt-leb, lt-ltb, le-ltb}
 use lib.Dec.{ltb, leb}
-use lib.ListN.{length, take, drop}
+use lib.ListN.{length, take, drop, getD-replicate}
 use Rattle.drafts.specs.declared.Node.{Node}
 use Rattle.messages.specs.declared.lent.Stored.{Stored}
 use Rattle.messages.specs.declared.lent.Stored.the-variants.{At, Refused}
@@ -20,7 +20,7 @@ use Rattle.terms.specs.Number.{numberIn, termsOf, terms-list}
 use Rattle.terms.specs.Outcome.{TermOutcome, accept, refuse}
 use Rattle.terms.specs.Valid.{holds, holds-valid}
 use Rattle.messages.specs.Entered.{entered}
-use Rattle.messages.specs.Plan.{known, drafted, Fresh, Ready, NodePlanned, withPlan, known-length}
+use Rattle.messages.specs.Plan.{known, drafted, Ready, NodePlanned, withPlan, known-length, emptyPlan}
 
 -- ---- definitions
 
@@ -47,24 +47,24 @@ addMessageOf n ts count draft root =
 
 -- ---- the start of a plan
 
-pub known-fresh : (ts : List ℕ) (count : ℕ) {p : Plan} → Fresh p → known ts count p ≡ termsOf ts count
-known-fresh ts count {p} f = ap (λ (k : ℕ). take count ts ++ take k (p .words)) (f .empty) ∙ append-nil (take count ts)
+pub known-fresh : (ts : List ℕ) (count : ℕ) {p : Plan} → p ≡ emptyPlan → known ts count p ≡ termsOf ts count
+known-fresh ts count f = ap (known ts count) f ∙ append-nil (take count ts)
 
 pub start-ready : {n : ℕ} {ts : List ℕ} {count : ℕ} {draft : List Node} {p : Plan} → n ≤ 65536 → holds n ts count ≡ true → draftFits n count draft ≡ true
-    → Fresh p → length (p .numbers) ≡ 16 → Ready ts count draft p
-start-ready {n} {ts} {count} {draft} {p} small h fits f size =
+    → p ≡ emptyPlan → Ready ts count draft p
+start-ready {n} {ts} {count} small h fits f =
     let v = holds-valid n ts count h in
-    let e = known-fresh ts count f in
-    record {
+    rw f
+    (record {
       n = n;
       small = small;
       table = v;
       fits = fits;
-      terms = rw e (terms-list v);
-      size = size;
-      room = omega (arith, f .empty);
-      notes = λ j lt. rw (f .unseen j) tt;
-    }
+      terms = rw append-nil (terms-list v);
+      size = refl;
+      room = omega arith;
+      notes = λ j lt. rw (getD-replicate {A = ℕ} 16 j 0 0) tt;
+    })
 
 -- ---- by the way out
 
@@ -82,7 +82,7 @@ module _ (n : ℕ) (ts : List ℕ) (count : ℕ) (draft : List Node) (root : ℕ
     unfolding addMessageOf
     bad-draft h e = rw (held, lt-ltb root 16 h, e)
 
-    module _ (h : root < 16) (fits : draftFits n count draft ≡ true) {p : Plan} (f : Fresh p) {number : ℕ} {q : Plan}
+    module _ (h : root < 16) (fits : draftFits n count draft ≡ true) {p : Plan} (f : p ≡ emptyPlan) {number : ℕ} {q : Plan}
         (planned : NodePlanned ts count draft root p number q) (in-plan : q .count ≤ length (q .words)) where
       all : known ts count q ≡ entered (termsOf ts count) (drafted ts draft root)
       all = planned .terms ∙ ap (λ (xs : List ℕ). entered xs (drafted ts draft root)) (known-fresh ts count f)

@@ -2,6 +2,7 @@
 -- Assumes nothing.
 use Prim.Native.Nat.{ℕ, zero, suc, _<_, _≤_}
 use mathlib.Core.List.{List, [], _∷_, _++_}
+use mathlib.Core.Logic.{dite}
 use mathlib.Core.Option.{some}
 use mathlib.Core.Path.{_≡_, refl, sym, ap, _∙_, subst}
 use native.Mathlib.Decide.{ℕ-discrete}
@@ -49,13 +50,10 @@ below-length (z ∷ l) (suc i) e = let h : i < length l = below-length l i e in 
 pub meanings-at : (ts : List ℕ) (count i : ℕ) → i < count → termAt (meanings ts count) i ≡ some (messageAt ts i)
 unfolding meanings
 meanings-at ts zero i h = absurd (omega arith)
-meanings-at ts (suc k) i h = by-eq (λ lt. append-front (meanings ts k) (messageAt ts k) i (meanings-at ts k i lt)) (ℕ-discrete i k)
-  where
-    by-eq : (i < k → termAt (meanings ts k ++ (messageAt ts k ∷ [])) i ≡ some (messageAt ts i)) → Dec (i ≡ k)
-        → termAt (meanings ts k ++ (messageAt ts k ∷ [])) i ≡ some (messageAt ts i)
-    by-eq before (yes e) =
-        rw e (ap (termAt (meanings ts k ++ (messageAt ts k ∷ []))) (sym (meanings-length ts k)) ∙ append-last (meanings ts k) (messageAt ts k))
-    by-eq before (no ne) = before (omega arith)
+meanings-at ts (suc k) i h =
+    dite (ℕ-discrete i k)
+    (λ e. rw e (ap (termAt (meanings ts k ++ (messageAt ts k ∷ []))) (sym (meanings-length ts k)) ∙ append-last (meanings ts k) (messageAt ts k)))
+    (λ ne. append-front (meanings ts k) (messageAt ts k) i (meanings-at ts k i (omega arith)))
 
 pub at-meanings : (ts : List ℕ) (count i : ℕ) (m : Message) → termAt (meanings ts count) i ≡ some m → (i < count) × (messageAt ts i ≡ m)
 at-meanings ts count i m e =
@@ -89,16 +87,15 @@ module _ {n : ℕ} (xs : List ℕ) (v : Terms n xs (length xs)) (m : Message) wh
       kept : (i : ℕ) → i < length xs → messageAt xs i ≡ messageAt (xs ++ (wordIn xs m ∷ [])) i
       kept = messages-same v (xs ++ (wordIn xs m ∷ [])) (λ k h. sym (List·getD-append xs (wordIn xs m ∷ []) 0 k h))
 
-      at-end : Dec (E .number ≡ length xs) → messageAt (xs ++ (wordIn xs m ∷ [])) (length xs) ≡ m
-      at-end (yes e) = subst (λ (i : ℕ). messageAt (xs ++ (wordIn xs m ∷ [])) i ≡ m) e (E .stands .means)
-      at-end (no ne) =
+      at-end : messageAt (xs ++ (wordIn xs m ∷ [])) (length xs) ≡ m
+      at-end =
+          dite (ℕ-discrete (E .number) (length xs)) (λ e. subst (λ (i : ℕ). messageAt (xs ++ (wordIn xs m ∷ [])) i ≡ m) e (E .stands .means))
+          (λ ne.
           let h : E .number < length xs = omega (arith, E .stands .below, long) in
-          absurd (absent f (E .number) h (kept (E .number) h ∙ E .stands .means))
+          absurd (absent f (E .number) h (kept (E .number) h ∙ E .stands .means)))
 
       last : meanings (xs ++ (wordIn xs m ∷ [])) (suc (length xs)) ≡ meanings xs (length xs) ++ (m ∷ [])
-      last =
-          rw
-          (sym (meanings-same xs (xs ++ (wordIn xs m ∷ [])) (length xs) kept), at-end (ℕ-discrete (E .number) (length xs)))
+      last = rw (sym (meanings-same xs (xs ++ (wordIn xs m ∷ [])) (length xs) kept), at-end)
 
   pub meanings-with : EnteredIs n xs (withTerm xs m) m → meanings (withTerm xs m) (length (withTerm xs m)) ≡ insert m (meanings xs (length xs))
   unfolding withWord

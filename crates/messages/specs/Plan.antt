@@ -9,10 +9,11 @@ use Prim.Native.Nat.{ℕ, zero, suc, _+_, _*_, _<_, _≤_}
 use native.Mathlib.Numerals.{add-one}
 use native.Mathlib.Omega.{arith}
 use borrow.Author.Tests.{eq-eqb}
-use lib.ListN.{length, getD, take, drop, set, length-append, List·getD-append}
+use lib.ListN.{length, getD, take, drop, replicate, set, length-append, List·getD-append}
 use lib.Seq.{length-take-le, getD-take, getD-append-seam, take-suc-set}
 use Rattle.drafts.specs.declared.Node.{Node}
 use Rattle.messages.specs.declared.plan.Plan.{Plan}
+use Rattle.messages.specs.declared.plan.Planned.{Planned}
 use Rattle.terms.specs.declared.table.Found.{Found}
 use Rattle.terms.specs.declared.table.Found.the-variants.{At, Nothing}
 use Rattle.drafts.specs.Draft.{draftMessage, draftFits}
@@ -45,9 +46,9 @@ abbrev pub NoteIs : List ℕ → Message → ℕ → Type 0
 NoteIs xs m zero = Unit {0}
 NoteIs xs m (suc i) = Standing xs m i
 
-pub record Fresh (p : Plan) : Type 0 where
-  pub empty : p .count ≡ 0
-  pub unseen : (j : ℕ) → getD (p .numbers) j 0 ≡ 0
+-- nothing planned
+abbrev pub emptyPlan : Plan
+emptyPlan = record { words = replicate 32 0; count = 0; numbers = replicate 16 0 }
 
 -- a plan under way: the table holds together, the draft fits, the known terms keep the rules, the notes are true, and
 -- no more than two words are planned for a node
@@ -83,6 +84,9 @@ withPlan ts count p = known ts count p ++ drop (count + p .count) ts
 -- the plan with node k noted
 abbrev pub withNote : Plan → (k number : ℕ) → Plan
 withNote p k number = record { words = p .words; count = p .count; numbers = set (p .numbers) k (number + 1) }
+
+abbrev pub noteOf : Planned → ℕ → Planned
+noteOf r k = record { number = r .number; plan = withNote (r .plan) k (r .number) }
 
 -- ---- planning a word, by what the two searches find
 

@@ -2,12 +2,13 @@
 -- node's message, entered.
 -- Assumes nothing.
 use mathlib.Core.Path.{_≡_, refl, sym, ap, _∙_, subst}
+use mathlib.Core.Logic.{dite}
 use mathlib.Core.List.{List}
 use Prim.Native.Nat.{ℕ, zero, suc, _+_, _-_, _<_, _≤_}
 use native.Mathlib.Decide.{ℕ-discrete}
 use native.Mathlib.Numerals.{add-one}
 use native.Mathlib.Omega.{arith}
-use lib.ListN.{length, getD, take, set, length-append, length-set, List·getD-append}
+use lib.ListN.{length, getD, take, length-append, length-set, List·getD-append}
 use lib.Seq.{length-take-le, getD-take, getD-set-same, getD-set-other}
 use Rattle.drafts.specs.declared.Layer.{Layer}
 use Rattle.drafts.specs.declared.Layer.the-variants as layer
@@ -48,17 +49,17 @@ module _ {ts : List ℕ} {count : ℕ} {draft : List Node} {p : Plan} (R : Ready
               terms = v;
               size = length-set (q .numbers) k (number + 1) ∙ ap length numbers ∙ R₁ .size;
               room = rw (numbers, add-one, noted-set (p₁ .numbers) k number (omega (arith, R₁ .size)) unseen) (omega (arith, R₁ .room));
-              notes = λ j h. note j h (ℕ-discrete j k);
+              notes = λ j h.
+                  dite (ℕ-discrete j k)
+                  (λ e. rw (e, getD-set-same (q .numbers) k (number + 1) 0 (omega (arith, ap length numbers, R₁ .size)), add-one) stands)
+                  (λ ne.
+                  rw (getD-set-other (q .numbers) k j (number + 1) 0 ne, numbers)
+                  (note-longer (R₁ .terms) longer (drafted ts draft j) (getD (p₁ .numbers) j 0) (R₁ .notes j h)));
             };
         terms = terms;
         number-is = sym (standing-number v stands);
         later = λ j h. getD-set-other (q .numbers) k j (number + 1) 0 (λ e. omega arith) ∙ ap (λ (l : List ℕ). getD l j 0) numbers ∙ later j h;
       }
-    where
-      note : (j : ℕ) → j < 16 → Dec (j ≡ k) → NoteIs (known ts count q) (drafted ts draft j) (getD (set (q .numbers) k (number + 1)) j 0)
-      note j h (yes e) = rw (e, getD-set-same (q .numbers) k (number + 1) 0 (omega (arith, ap length numbers, R₁ .size)), add-one) stands
-      note j h (no ne) =
-          rw (getD-set-other (q .numbers) k j (number + 1) 0 ne, numbers) (note-longer (R₁ .terms) longer (drafted ts draft j) (getD (p₁ .numbers) j 0) (R₁ .notes j h))
 
   layered : {L : Layer} → layerOf (nodeAt draft k) ≡ L → LayerIs count k (messageAt ts) (drafted ts draft) L (drafted ts draft k)
   layered e =
@@ -171,9 +172,10 @@ module _ {ts : List ℕ} {count : ℕ} {draft : List Node} {p : Plan} (R : Ready
 
   pub node-pair : {l r : ℕ} → layerOf (nodeAt draft k) ≡ layer.Pair l r
       → {i : ℕ} {p₁ : Plan} → NodePlanned ts count draft l p i p₁ → {j : ℕ} {p₂ : Plan} → NodePlanned ts count draft r p₁ j p₂
-      → {number : ℕ} {q : Plan} → WordPlanned ts count p₂ (wordOf (Pair i j)) number q → NodePlanned ts count draft k p number (withNote q k number)
+      → {w : ℕ} → w ≡ wordOf (Pair i j) → {number : ℕ} {q : Plan} → WordPlanned ts count p₂ w number q → NodePlanned ts count draft k p number (withNote q k number)
   unfolding entered
-  node-pair {l} {r} e {i} {p₁} first {j} {p₂} second {number} {q} wp =
+  node-pair {l} {r} e {i} {p₁} first {j} {p₂} second is {number} {q} planned =
+      let wp : WordPlanned ts count p₂ (wordOf (Pair i j)) number q = subst (λ (w : ℕ). WordPlanned ts count p₂ w number q) is planned in
       let xs = known ts count p in
       let ys = known ts count p₁ in
       let zs = known ts count p₂ in
@@ -205,9 +207,10 @@ module _ {ts : List ℕ} {count : ℕ} {draft : List Node} {p : Plan} (R : Ready
 
   pub node-encrypted : {b w : ℕ} → layerOf (nodeAt draft k) ≡ layer.Encrypted b w
       → {i : ℕ} {p₁ : Plan} → NodePlanned ts count draft b p i p₁ → {j : ℕ} {p₂ : Plan} → WordPlanned ts count p₁ w j p₂
-      → {number : ℕ} {q : Plan} → WordPlanned ts count p₂ (wordOf (Encrypted i j)) number q → NodePlanned ts count draft k p number (withNote q k number)
+      → {v : ℕ} → v ≡ wordOf (Encrypted i j) → {number : ℕ} {q : Plan} → WordPlanned ts count p₂ v number q → NodePlanned ts count draft k p number (withNote q k number)
   unfolding entered wordIn
-  node-encrypted {b} {w} e {i} {p₁} first {j} {p₂} second {number} {q} wp =
+  node-encrypted {b} {w} e {i} {p₁} first {j} {p₂} second is {number} {q} planned =
+      let wp : WordPlanned ts count p₂ (wordOf (Encrypted i j)) number q = subst (λ (w : ℕ). WordPlanned ts count p₂ w number q) is planned in
       let xs = known ts count p in
       let ys = known ts count p₁ in
       let zs = known ts count p₂ in

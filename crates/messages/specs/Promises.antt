@@ -4,7 +4,7 @@
 -- crate `drafts`.
 -- Assumes nothing.
 use mathlib.Core.Path.{_≡_, refl, sym, ap, _∙_}
-use mathlib.Core.Bool.{Bool, true, false, _&&_, and-eq-true-iff, cond}
+use mathlib.Core.Bool.{_&&_, and-eq-true-iff}
 use mathlib.Core.List.{List}
 use Prim.Native.Nat.{ℕ, _<_, _≤_}
 use native.Mathlib.Omega.{arith}
@@ -15,6 +15,7 @@ use lib.Seq.{drop-append-seam}
 use Rattle.drafts.specs.declared.Node.{Node}
 use Rattle.drafts.specs.Draft.{draftMessage, draftFits}
 use Rattle.drafts.specs.Writes.{Writes, draft-writes}
+use Rattle.terms.specs.Choice.{cond-first}
 use Rattle.terms.specs.Meaning.{messageAt, messages-same}
 use Rattle.terms.specs.Message.{Message}
 use Rattle.terms.specs.Number.{numberIn, termsOf, terms-length, terms-agree, terms-list}
@@ -45,35 +46,11 @@ pub record MessageAdded (n : ℕ) (ts : List ℕ) (count : ℕ) (m : Message) (i
 
 -- ---- what an accepted outcome says
 
-record Accepted (a b c : Bool) (x y i m : ℕ) (us vs : List ℕ) : Type 0 where
-  first : a ≡ true
-  second : b ≡ true
-  third : c ≡ true
-  number-is : i ≡ x
-  count-is : m ≡ y
-  table-is : vs ≡ us
-
-never : {A : Type 0} (r k i m : ℕ) (ts vs : List ℕ) → refuse r k ts ≡ accept i m vs → A
-never r k i m ts vs e =
+never : {r k i m : ℕ} {ts vs : List ℕ} → refuse r k ts ≡ accept i m vs → ⊥
+never e =
     let q = ap (λ (o : TermOutcome). o .answer) e in
     let z : _≡_ {A = ℕ} 0 1 = cc in
-    absurd (omega arith)
-
-accepted : (a b c : Bool) (x y k i m : ℕ) (us ts vs : List ℕ)
-    → cond a (cond b (cond c (accept x y us) (refuse 20 k ts)) (refuse 6 k ts)) (refuse 10 k ts) ≡ accept i m vs → Accepted a b c x y i m us vs
-accepted true true true x y k i m us ts vs e =
-    let q = ap (λ (o : TermOutcome). o .answer) e in
-    record {
-      first = refl;
-      second = refl;
-      third = refl;
-      number-is = (cc);
-      count-is = sym (ap (λ (o : TermOutcome). o .count) e);
-      table-is = sym (ap (λ (o : TermOutcome). o .table) e);
-    }
-accepted true true false x y k i m us ts vs e = never 20 k i m ts vs e
-accepted true false c x y k i m us ts vs e = never 6 k i m ts vs e
-accepted false b c x y k i m us ts vs e = never 10 k i m ts vs e
+    omega arith
 
 -- ---- the terms laid over the table
 
@@ -98,18 +75,19 @@ message-added n small ts count draft root {i} {m} {ts′} e =
     let message = draftMessage (messageAt ts) draft root in
     let old = termsOf ts count in
     let xs = entered old message in
-    let a =
-    accepted (holds n ts count) (ltb root 16 && draftFits n count draft) (leb (length xs) 512) (numberIn xs message) (length xs) count i m
-    (over xs ts) ts ts′ e in
-    let v = holds-valid n ts count (a .first) in
-    let b = and-eq-true-iff (ltb root 16) (draftFits n count draft) .0 (a .second) in
-    let room : length xs ≤ 512 = leb-true (length xs) 512 (a .third) in
+    let p = cond-first (holds n ts count) never e in
+    let q = cond-first (ltb root 16 && draftFits n count draft) never (p .1) in
+    let r = cond-first (leb (length xs) 512) never (q .1) in
+    let number-is : i ≡ numberIn xs message = let a = ap (λ (o : TermOutcome). o .answer) (r .1) in cc in
+    let v = holds-valid n ts count (p .0) in
+    let b = and-eq-true-iff (ltb root 16) (draftFits n count draft) .0 (q .0) in
+    let room : length xs ≤ 512 = leb-true (length xs) 512 (r .0) in
     let E = entered-is small message (draft-writes v draft (b .1) root (ltb-true root 16 (b .0))) old (terms-list v) (omega arith) in
-    let at : i ≡ E .number = a .number-is ∙ standing-number (E .extends .terms) (E .stands) in
+    let at : i ≡ E .number = number-is ∙ standing-number (E .extends .terms) (E .stands) in
     let agree = over-agree ts (E .extends .terms) (v .size) room in
     let same : Agree ts (over xs ts) count = λ k h.
     terms-agree v k h ∙ E .extends .agree k (omega (arith, terms-length v)) ∙ agree k (omega (arith, terms-length v, E .extends .more)) in
-    rw (a .table-is, a .count-is)
+    rw (sym (ap (λ (o : TermOutcome). o .table) (r .1)), sym (ap (λ (o : TermOutcome). o .count) (r .1)))
     (record {
       valid = over-valid ts (E .extends .terms) (v .size) room;
       below = omega (arith, at, E .stands .below);

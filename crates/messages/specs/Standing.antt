@@ -46,14 +46,8 @@ spare-word n ts at (Time t) h f = (omega arith, refl)
 spare-word n ts at (Nonce i) h f = (omega arith, omega arith)
 spare-word n ts at (LongTermKey p) h f = (omega arith, omega arith)
 spare-word n ts at (SessionKey i) h f = (omega arith, omega arith)
-spare-word n ts at (Pair l r) h f =
-    let hl : l < 65536 = h .0 in
-    let hr : r < 65536 = h .1 in
-    (omega arith, refl)
-spare-word n ts at (Encrypted b k) h f =
-    let hb : b < 65536 = h .0 in
-    let hk : k < 65536 = h .1 in
-    (omega arith, refl)
+spare-word n ts at (Pair l r) h f = (omega (arith, h .0, h .1), refl)
+spare-word n ts at (Encrypted b k) h f = (omega (arith, h .0, h .1), refl)
 spare-word n ts at Unknown h f = absurd f
 
 pub word-passes : (n : ℕ) (ts : List ℕ) (at : ℕ) (t : Term) → Packs t → Fields n ts at t → refusalOf n ts at (wordOf t) ≡ 0

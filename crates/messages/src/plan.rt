@@ -8,7 +8,7 @@ use words::pack;
 ghost use mathlib.Core.Path.{_≡_};
 ghost use Prim.Native.Nat.{_+_, _<_, _≤_};
 ghost use lib.ListN.{length};
-ghost use Rattle.messages.specs.Plan.{Fresh, withNote, WordPlanned, Ready, NodePlanned, withPlan};
+ghost use Rattle.messages.specs.Plan.{WordPlanned, Ready, NodePlanned, withPlan, emptyPlan, noteOf};
 
 // The words to put behind the terms, the first `count` of `words`; and for each node of the draft that has been looked
 // at, the number of its term and one, else 0, so that no node is looked at twice.
@@ -26,7 +26,7 @@ pub struct Planned {
 
 // Nothing planned.
 pub fn fresh() -> Plan
-    ensures { λ r. ⌜ Fresh r ⌝ }
+    ensures { λ r. ⌜ r ≡ emptyPlan ⌝ }
 {
     Plan {
         words: [0u64; 32],
@@ -65,7 +65,7 @@ fn plan_word(terms: &[u64], count: usize, plan: Plan, word: u64) -> Planned
 // Node k has this number.
 fn note(planned: Planned, k: usize) -> Planned
     requires { ⌜ (k < 16) × (planned .number < 65535) ⌝ }
-    ensures { λ r. ⌜ (r .number ≡ planned .number) × (r .plan ≡ withNote (planned .plan) k (planned .number)) ⌝ }
+    ensures { λ r. ⌜ r ≡ noteOf planned k ⌝ }
 {
     let number = planned.number;
     let mut next = planned.plan;

@@ -1,18 +1,19 @@
--- What holds after messages were sent, or refused, and where sending changes no term.
+-- What holds after messages were sent, which are, and where sending changes no term.
 -- Assumes nothing.
-use mathlib.Core.Path.{_≡_, refl, sym, ap, _∙_, subst}
-use mathlib.Core.Bool.{Bool, true, false, cond}
+use mathlib.Core.Path.{_≡_, sym, ap, _∙_, subst}
+use mathlib.Core.Bool.{true, cond}
 use mathlib.Core.List.{List, [], _∷_, List·Memᴰ, Memᴰ·cast}
-use mathlib.Core.Logic.{_⊎_, inl, inr}
+use mathlib.Core.Logic.{_⊎_, inl, inr, dite}
 use Prim.Native.Nat.{ℕ, _<_, _≤_}
 use native.Mathlib.Decide.{decLe}
 use native.Mathlib.Omega.{arith}
-use borrow.Author.Tests.{le-leb, lt-leb, leb-true, leb-false}
+use borrow.Author.Tests.{le-leb, lt-leb, leb-true}
 use lib.Dec.{leb}
 use lib.ListN.{length, drop, take-append-drop}
 use lib.Seq.{drop-append-seam, take-append-seam, length-take-le}
 use Rattle.drafts.specs.Writes.{Writes}
 use Rattle.marks.specs.Marks.{Words, marked, withMark}
+use Rattle.terms.specs.Choice.{cond-first}
 use Rattle.terms.specs.Meaning.{messageAt, messages-same}
 use Rattle.terms.specs.Message.{Message}
 use Rattle.terms.specs.Number.{numberIn, termsOf, terms-length, terms-agree, terms-list, terms-message}
@@ -25,22 +26,10 @@ use Rattle.messages.specs.Meanings.{meanings, meanings-length, meanings-same}
 use Rattle.messages.specs.Promises.{over-agree, over-valid}
 use Rattle.messages.specs.Standing.{Standing, longer-entered, standing-number, entered-present}
 use Rattle.deduction.specs.Known.{Known}
-use Rattle.sending.specs.Send.{enteredAll, markedAll, sent, refused, sending, sendOf, AllWrites, SentIs, SendRefused}
+use Rattle.sending.specs.Send.{enteredAll, markedAll, fitsIn, sent, refused, sending, sendOf, AllWrites, SentIs}
 use Rattle.sending.specs.Entering.{AllEntered, all-entered, entered-again}
 use Rattle.sending.specs.Marking.{Placed, Numbered, all-words, all-keeps, all-added, all-new, with-again}
 use Rattle.sending.specs.Full.{all-too-long}
-
--- ---- what an outcome says
-
-accepted : (b : Bool) (c k : ℕ) (us vs ts ws ts′ ws′ : List ℕ) → cond b (sent c us vs) (refused 20 ts ws) ≡ sent k ts′ ws′
-    → (b ≡ true) × (k ≡ c) × (ts′ ≡ us) × (ws′ ≡ vs)
-accepted true c k us vs ts ws ts′ ws′ e = (refl, (cc), (cc), (cc))
-accepted false c k us vs ts ws ts′ ws′ e = let z : _≡_ {A = ℕ} 0 1 = cc in absurd (omega arith)
-
-denied : (b : Bool) (c k : ℕ) (us vs ts ws ts′ ws′ : List ℕ) → cond b (sent c us vs) (refused 20 ts ws) ≡ refused k ts′ ws′
-    → (b ≡ false) × (k ≡ 20) × (ts′ ≡ ts) × (ws′ ≡ ws)
-denied true c k us vs ts ws ts′ ws′ e = let z : _≡_ {A = ℕ} 0 1 = cc in absurd (omega arith)
-denied false c k us vs ts ws ts′ ws′ e = (refl, (cc), (cc), (cc))
 
 -- ---- the terms of a table
 
@@ -127,52 +116,32 @@ module _ (n : ℕ) (small : n ≤ 65536) {ts : List ℕ} {count : ℕ} (v : Vali
   sent-accepted words within {ts′} {ws′} {count′} e =
       let old = termsOf ts count in
       let xs = enteredAll old ms in
-      let a = accepted (leb (length xs) 512) (length xs) count′ (over xs ts) (markedAll ws xs ms) ts ws ts′ ws′ e in
+      let a = cond-first (leb (length xs) 512) (λ f. let z : _≡_ {A = ℕ} 0 1 = cc in omega arith) e in
       let room : length xs ≤ 512 = leb-true (length xs) 512 (a .0) in
-      rw (a .1, a .2, a .3) (sent-is words within xs room (all-entered small ms writes old (terms-list v) room))
+      let same : (count′ ≡ length xs) × (ts′ ≡ over xs ts) × (ws′ ≡ markedAll ws xs ms) = let f = a .1 in ((cc), (cc), (cc)) in
+      rw (same .0, same .1, same .2) (sent-is words within xs room (all-entered small ms writes old (terms-list v) room))
 
-  pub sent-refused : {k : ℕ} {ts′ ws′ : List ℕ} → sendOf ts ws count ms ≡ refused k ts′ ws′ → SendRefused ts ws count ms k ts′ ws′
-  unfolding sendOf
-  sent-refused {k} {ts′} {ws′} e =
-      let old = termsOf ts count in
-      let xs = enteredAll old ms in
-      let d = denied (leb (length xs) 512) (length xs) k (over xs ts) (markedAll ws xs ms) ts ws ts′ ws′ e in
-      let long = all-too-long small ms writes old (terms-list v) (omega (arith, terms-length v, v .room)) (leb-false (length xs) 512 (d .0)) in
-      record {
-        twenty = d .1;
-        terms = d .2;
-        wire = d .3;
-        full = subst (λ (l : List Message). 512 < length (addAll ms l)) (old-meanings v) long;
-      }
+  -- as many terms as messages, where either fit
+  fits-exact : fitsIn ts count ms ≡ leb (length (addAll ms (meanings ts count))) 512
+  fits-exact =
+      let xs = enteredAll (termsOf ts count) ms in
+      dite (decLe (length xs) 512)
+      (λ le.
+      let A = all-entered small ms writes (termsOf ts count) (terms-list v) le in
+      let e = ap length (A .added ∙ ap (addAll ms) (old-meanings v)) in
+      le-leb (length xs) 512 le ∙ sym (le-leb (length (addAll ms (meanings ts count))) 512 (omega (arith, e, meanings-length xs (length xs)))))
+      (λ gt.
+      let long = all-too-long small ms writes (termsOf ts count) (terms-list v) (omega (arith, terms-length v, v .room)) (omega arith) in
+      lt-leb (length xs) 512 (omega arith) ∙ sym (lt-leb _ 512 (subst (λ (l : List Message). 512 < length (addAll ms l)) (old-meanings v) long)))
 
-  -- which of the two it is
   pub sent-fits : length (addAll ms (meanings ts count)) ≤ 512
       → let xs = enteredAll (termsOf ts count) ms in sendOf ts ws count ms ≡ sent (length xs) (over xs ts) (markedAll ws xs ms)
   unfolding sendOf
-  sent-fits room = by-room (decLe (length xs) 512)
-    where
-      xs : List ℕ
-      xs = enteredAll (termsOf ts count) ms
-
-      by-room : Dec (length xs ≤ 512) → sending ts ws xs ms ≡ sent (length xs) (over xs ts) (markedAll ws xs ms)
-      by-room (yes le) = rw (le-leb (length xs) 512 le)
-      by-room (no gt) =
-          let long = all-too-long small ms writes (termsOf ts count) (terms-list v) (omega (arith, terms-length v, v .room)) (omega arith) in
-          absurd (omega (arith, subst (λ (l : List Message). 512 < length (addAll ms l)) (old-meanings v) long))
+  sent-fits room = rw (fits-exact, le-leb (length (addAll ms (meanings ts count))) 512 room)
 
   pub sent-full : 512 < length (addAll ms (meanings ts count)) → sendOf ts ws count ms ≡ refused 20 ts ws
   unfolding sendOf
-  sent-full long = by-room (decLe (length xs) 512)
-    where
-      xs : List ℕ
-      xs = enteredAll (termsOf ts count) ms
-
-      by-room : Dec (length xs ≤ 512) → sending ts ws xs ms ≡ refused 20 ts ws
-      by-room (yes le) =
-          let A = all-entered small ms writes (termsOf ts count) (terms-list v) le in
-          let e = ap length (A .added ∙ ap (addAll ms) (old-meanings v)) in
-          absurd (omega (arith, meanings-length xs (length xs)))
-      by-room (no gt) = rw (lt-leb (length xs) 512 (omega arith))
+  sent-full long = rw (fits-exact, lt-leb (length (addAll ms (meanings ts count))) 512 long)
 
 -- ---- messages that change no term
 
@@ -196,13 +165,10 @@ module _ {n : ℕ} {ts : List ℕ} {count : ℕ} (v : Valid n ts count) (ws : Li
 
   pub send-twice : n ≤ 65536 → (m : Message) → Writes n m → sendOf ts ws count (m ∷ m ∷ []) ≡ sendOf ts ws count (m ∷ [])
   unfolding sendOf
-  send-twice small m w = by-room (decLe (length xs) 512)
-    where
-      xs : List ℕ
-      xs = entered (termsOf ts count) m
-
-      by-room : Dec (length xs ≤ 512) → sending ts ws (entered xs m) (m ∷ m ∷ []) ≡ sending ts ws xs (m ∷ [])
-      by-room (yes le) =
-          ap (λ (ys : List ℕ). sending ts ws ys (m ∷ m ∷ [])) (entered-again small m w (termsOf ts count) (terms-list v) le)
-          ∙ ap (λ (us : List ℕ). cond (leb (length xs) 512) (sent (length xs) (over xs ts) us) (refused 20 ts ws)) (with-again ws (numberIn xs m))
-      by-room (no gt) = rw (lt-leb (length xs) 512 (omega arith), lt-leb (length (entered xs m)) 512 (omega (arith, longer-entered xs m .more)))
+  send-twice small m w =
+      let xs = entered (termsOf ts count) m in
+      dite (decLe (length xs) 512)
+      (λ le.
+      ap (λ (ys : List ℕ). sending ts ws ys (m ∷ m ∷ [])) (entered-again small m w (termsOf ts count) (terms-list v) le)
+      ∙ ap (λ (us : List ℕ). cond (leb (length xs) 512) (sent (length xs) (over xs ts) us) (refused 20 ts ws)) (with-again ws (numberIn xs m)))
+      (λ gt. rw (lt-leb (length xs) 512 (omega arith), lt-leb (length (entered xs m)) 512 (omega (arith, longer-entered xs m .more))))

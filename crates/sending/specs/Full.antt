@@ -3,7 +3,7 @@
 -- Assumes nothing.
 use mathlib.Core.Path.{_≡_, sym, ap, _∙_, subst}
 use mathlib.Core.List.{List, [], _∷_}
-use mathlib.Core.Logic.{ite}
+use mathlib.Core.Logic.{dite, ite}
 use Prim.Native.Nat.{ℕ, suc, _<_, _≤_}
 use native.Mathlib.Decide.{decLe}
 use native.Mathlib.Omega.{arith}
@@ -75,58 +75,40 @@ module _ {n : ℕ} (small : n ≤ 65536) where
   too-long (nonce i) w xs v room h = outgrown (nonce i) w xs v (omega (arith, one-more xs (nonce i))) h
   too-long (key k) w xs v room h = outgrown (key k) w xs v (omega (arith, one-more xs (key k))) h
   too-long (pair a b) w xs v room h =
-      by-left (decLe (length (entered xs a)) 512) (λ gt. too-long a (w .0) xs v room gt) (λ t le gt. too-long b (w .1) (entered xs a) t le gt)
-    where
-      old : List Message
-      old = meanings xs (length xs)
-
-      ys : List ℕ
-      ys = entered xs a
-
-      by-right : length ys ≤ 512 → Dec (length (entered ys b) ≤ 512)
-          → (Terms n ys (length ys) → length ys ≤ 512 → 512 < length (entered ys b) → 512 < length (add b (meanings ys (length ys))))
-          → 512 < length (add (pair a b) old)
-      by-right le (yes le′) right = outgrown (pair a b) w xs v (omega (arith, one-more (entered ys b) (pair a b))) h
-      by-right le (no gt) right =
-          let E = entered-is small a (w .0) xs v (omega arith) in
-          let e : meanings ys (length ys) ≡ add a old = meanings-entered small a (w .0) xs v (omega arith) in
-          let long = subst (λ (l : List Message). 512 < length (add b l)) e (right (E .extends .terms) le (omega arith)) in
-          omega (arith, insert-grows (pair a b) (add b (add a old)))
-
-      by-left : Dec (length ys ≤ 512) → (512 < length ys → 512 < length (add a old))
-          → (Terms n ys (length ys) → length ys ≤ 512 → 512 < length (entered ys b) → 512 < length (add b (meanings ys (length ys))))
-          → 512 < length (add (pair a b) old)
-      by-left (yes le) left right = by-right le (decLe (length (entered ys b)) 512) right
-      by-left (no gt) left right = omega (arith, left (omega arith), add-grows b (add a old), insert-grows (pair a b) (add b (add a old)))
-  too-long (encrypted m k) w xs v room h = by-body (decLe (length (entered xs m)) 512) (λ gt. too-long m (w .0) xs v room gt)
-    where
-      old : List Message
-      old = meanings xs (length xs)
-
-      ys : List ℕ
-      ys = entered xs m
-
-      by-body : Dec (length ys ≤ 512) → (512 < length ys → 512 < length (add m old)) → 512 < length (add (encrypted m k) old)
-      by-body (yes le) body = outgrown (encrypted m k) w xs v (omega (arith, one-more ys (key k), one-more (withTerm ys (key k)) (encrypted m k))) h
-      by-body (no gt) body =
-          omega (arith, body (omega arith), insert-grows (key k) (add m old), insert-grows (encrypted m k) (insert (key k) (add m old)))
+      let old = meanings xs (length xs) in
+      let ys = entered xs a in
+      let last = insert-grows (pair a b) (add b (add a old)) in
+      dite (decLe (length ys) 512)
+      (λ le.
+      dite (decLe (length (entered ys b)) 512) (λ le′. outgrown (pair a b) w xs v (omega (arith, one-more (entered ys b) (pair a b))) h)
+      (λ gt.
+      let E = entered-is small a (w .0) xs v (omega arith) in
+      let e : meanings ys (length ys) ≡ add a old = meanings-entered small a (w .0) xs v (omega arith) in
+      let long = subst (λ (l : List Message). 512 < length (add b l)) e (too-long b (w .1) ys (E .extends .terms) le (omega arith)) in
+      omega (arith, last)))
+      (λ gt. omega (arith, too-long a (w .0) xs v room (omega arith), add-grows b (add a old), last))
+  too-long (encrypted m k) w xs v room h =
+      let old = meanings xs (length xs) in
+      let ys = entered xs m in
+      dite (decLe (length ys) 512)
+      (λ le. outgrown (encrypted m k) w xs v (omega (arith, one-more ys (key k), one-more (withTerm ys (key k)) (encrypted m k))) h)
+      (λ gt.
+      omega (
+        arith,
+        too-long m (w .0) xs v room (omega arith),
+        insert-grows (key k) (add m old),
+        insert-grows (encrypted m k) (insert (key k) (add m old)),
+      ))
 
   -- messages one after another
   pub all-too-long : (ms : List Message) → AllWrites n ms → (xs : List ℕ) → Terms n xs (length xs) → length xs ≤ 512 → 512 < length (enteredAll xs ms)
       → 512 < length (addAll ms (meanings xs (length xs)))
   all-too-long [] w xs v room h = absurd (omega arith)
   all-too-long (m ∷ ms) w xs v room h =
-      by-first (decLe (length (entered xs m)) 512) (λ t le. all-too-long ms (w .1) (entered xs m) t le h)
-    where
-      old : List Message
-      old = meanings xs (length xs)
-
-      ys : List ℕ
-      ys = entered xs m
-
-      by-first : Dec (length ys ≤ 512) → (Terms n ys (length ys) → length ys ≤ 512 → 512 < length (addAll ms (meanings ys (length ys))))
-          → 512 < length (addAll ms (add m old))
-      by-first (yes le) after =
-          let E = entered-is small m (w .0) xs v (omega arith) in
-          subst (λ (l : List Message). 512 < length (addAll ms l)) (meanings-entered small m (w .0) xs v (omega arith)) (after (E .extends .terms) le)
-      by-first (no gt) after = omega (arith, too-long m (w .0) xs v room (omega arith), addAll-grows ms (add m old))
+      let ys = entered xs m in
+      dite (decLe (length ys) 512)
+      (λ le.
+      let E = entered-is small m (w .0) xs v (omega arith) in
+      subst (λ (l : List Message). 512 < length (addAll ms l)) (meanings-entered small m (w .0) xs v (omega arith))
+      (all-too-long ms (w .1) ys (E .extends .terms) le h))
+      (λ gt. omega (arith, too-long m (w .0) xs v room (omega arith), addAll-grows ms (add m (meanings xs (length xs)))))

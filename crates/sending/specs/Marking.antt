@@ -3,7 +3,7 @@
 use mathlib.Core.Path.{_≡_, refl, ap, _∙_}
 use mathlib.Core.Bool.{true}
 use mathlib.Core.List.{List, [], _∷_, List·Memᴰ, List·Memᴰ·head, List·Memᴰ·tail}
-use mathlib.Core.Logic.{_⊎_, inl, inr, ⊎-elim}
+use mathlib.Core.Logic.{_⊎_, inl, inr, dite, ⊎-elim}
 use Prim.Native.Nat.{ℕ, _*_, _<_}
 use native.Mathlib.Decide.{decLt}
 use native.Mathlib.Omega.{arith}
@@ -53,21 +53,15 @@ module _ (xs : List ℕ) where
       → (marked ws i ≡ true) ⊎ Numbered xs ms i
   all-new ws [] w p i k = inl k
   all-new ws (m ∷ ms) w p i k =
-      ⊎-elim (by-new m ms ws (marked-new ws (numberIn xs m) (omega (arith, here m ms p)) i)) (λ s. inr (later s))
+      ⊎-elim
+      (λ k′.
+      ⊎-elim (λ e. inr (record { message = m; among = List·Memᴰ·head refl; number = e })) (λ o. inl o)
+      (marked-new ws (numberIn xs m) (omega (arith, here m ms p)) i k′))
+      (λ s. inr (record { message = s .message; among = List·Memᴰ·tail (s .among); number = s .number }))
       (all-new (withMark ws (numberIn xs m)) ms (with-length ws (numberIn xs m) ∙ w) (rest m ms p) i k)
-    where
-      later : Numbered xs ms i → Numbered xs (m ∷ ms) i
-      later s = record { message = s .message; among = List·Memᴰ·tail (s .among); number = s .number }
-
-      by-new : (m : Message) (ms : List Message) (ws : List ℕ)
-          → (marked (withMark ws (numberIn xs m)) i ≡ true → (i ≡ numberIn xs m) ⊎ (marked ws i ≡ true))
-          → marked (withMark ws (numberIn xs m)) i ≡ true → (marked ws i ≡ true) ⊎ Numbered xs (m ∷ ms) i
-      by-new m ms ws f k = ⊎-elim (λ e. inr (record { message = m; among = List·Memᴰ·head refl; number = e })) (λ o. inl o) (f k)
 
 -- a number marked twice
 pub with-again : (ws : List ℕ) (i : ℕ) → withMark (withMark ws i) i ≡ withMark ws i
-with-again ws i = by-place (decLt i (64 * length ws))
-  where
-    by-place : Dec (i < 64 * length ws) → withMark (withMark ws i) i ≡ withMark ws i
-    by-place (yes h) = with-idle (withMark ws i) i (marked-same ws i h)
-    by-place (no past) = ap (λ (w : List ℕ). withMark w i) (with-past ws i (omega arith))
+with-again ws i =
+    dite (decLt i (64 * length ws)) (λ h. with-idle (withMark ws i) i (marked-same ws i h))
+    (λ past. ap (λ (w : List ℕ). withMark w i) (with-past ws i (omega arith)))

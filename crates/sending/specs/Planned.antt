@@ -2,12 +2,13 @@
 -- Assumes nothing.
 use mathlib.Core.Path.{_≡_, refl, sym, ap, ap₂, _∙_, subst}
 use mathlib.Core.Bool.{Bool, true, false, cond}
-use mathlib.Core.List.{List, [], _∷_, _++_}
+use mathlib.Core.List.{List, [], _∷_, append-nil}
 use Prim.Native.Nat.{ℕ, _+_, _<_, _≤_}
+use native.Mathlib.Nat.{add-zero}
 use native.Mathlib.Omega.{arith}
 use borrow.Author.Tests.{le-leb}
 use lib.Dec.{leb}
-use lib.ListN.{length, drop, take-append-drop}
+use lib.ListN.{length, take-append-drop}
 use Rattle.drafts.specs.Writes.{draft-writes}
 use Rattle.terms.specs.Message.{Message}
 use Rattle.terms.specs.Number.{numberIn, termsOf, terms-list}
@@ -16,7 +17,7 @@ use Rattle.drafts.specs.declared.Node.{Node}
 use Rattle.messages.specs.declared.plan.Plan.{Plan}
 use Rattle.messages.specs.Entered.{entered}
 use Rattle.messages.specs.Lent.{over, start-ready, known-fresh}
-use Rattle.messages.specs.Plan.{known, drafted, Fresh, Ready, NodePlanned, withPlan, known-length}
+use Rattle.messages.specs.Plan.{known, drafted, Ready, NodePlanned, withPlan, known-length, emptyPlan}
 use Rattle.messages.specs.Planning.{few}
 use Rattle.messages.specs.Standing.{entered-is, longer-entered, standing-here, standing-longer}
 use Rattle.marks.specs.Marks.{withMark}
@@ -27,9 +28,9 @@ use Rattle.sending.specs.Entering.{number-longer}
 use Rattle.sending.specs.Send.{enteredAll, markedAll, fitsIn, MarksFit, markedBy, comes, Plannable, PlanFor, sent, refused, sending, sendOf}
 use Rattle.sending.specs.Accepted.{send-nothing}
 
-module _ {ts : List ℕ} {count : ℕ} {draft : List Node} {first last : ℕ} (s : Plannable ts count draft first last) {p : Plan} (f : Fresh p) where
-  pub ready : length (p .numbers) ≡ 16 → Ready ts count draft p
-  ready size = start-ready (s .small) (valid-holds (s .table)) (s .fits) f size
+module _ {ts : List ℕ} {count : ℕ} {draft : List Node} {first last : ℕ} (s : Plannable ts count draft first last) {p : Plan} (f : p ≡ emptyPlan) where
+  pub ready : Ready ts count draft p
+  ready = start-ready (s .small) (valid-holds (s .table)) (s .fits) f
 
   module _ {i : ℕ} {q : Plan} (one : NodePlanned ts count draft first p i q) {j : ℕ} {r : Plan} (two : NodePlanned ts count draft last q j r)
       (in-plan : r .count ≤ length (r .words)) where
@@ -100,18 +101,12 @@ none-marked e ws = rw e
 
 -- where nothing is sent nothing is planned
 module _ (ts : List ℕ) (count : ℕ) (size : length ts ≡ 512) (room : count ≤ 512) where
-  no-more : (ws : List ℕ) → cond (leb count 512) (sent count ts ws) (refused 20 ts ws) ≡ sent count ts ws
-  no-more ws = rw (le-leb count 512 room)
-
-  pub nothing-planned : {p : Plan} → Fresh p → PlanFor ts count [] (record { plan = p; marks = Nothing })
-  nothing-planned {p} f =
-      let all : count + p .count ≡ count = omega (arith, f .empty) in
-      let same : withPlan ts count p ≡ ts = ap₂ (λ (xs : List ℕ) (k : ℕ). xs ++ drop k ts) (known-fresh ts count f) all ∙ take-append-drop count ts in
+  pub nothing-planned : PlanFor ts count [] (record { plan = emptyPlan; marks = Nothing })
+  nothing-planned =
       record {
-        few = omega (arith, f .empty);
+        few = omega arith;
         marks = λ le. tt;
-        sends = λ ws.
-            ap₂ (λ (k : ℕ) (us : List ℕ). cond (leb k 512) (sent k us ws) (refused 20 ts ws)) all same ∙ no-more ws ∙ sym (send-nothing ts ws count size room);
+        sends = λ ws. rw (add-zero, append-nil, take-append-drop, le-leb count 512 room) (sym (send-nothing ts ws count size room));
       }
 
 -- ---- a plan that is for messages

@@ -15,10 +15,10 @@ use Rattle.terms.specs.Valid.{Valid}
 use Rattle.messages.specs.Lent.{over}
 use Rattle.messages.specs.Listed.{addAll}
 use Rattle.messages.specs.Meanings.{meanings}
-use Rattle.sending.specs.Send.{enteredAll, markedAll, sent, refused, sendOf, AllWrites, SentIs, SendRefused}
+use Rattle.sending.specs.Send.{enteredAll, markedAll, sent, refused, sendOf, AllWrites, SentIs}
 -- a plan for messages is too long exactly where 20 is given; otherwise writing it is sending them; and no message needs no plan
 pub use Rattle.sending.specs.Planned.{room-known, plan-sent, send-room, nothing-planned}
-use Rattle.sending.specs.Accepted.{sent-accepted, sent-refused, sent-fits, sent-full, send-nothing, send-standing, send-twice}
+use Rattle.sending.specs.Accepted.{sent-accepted, sent-fits, sent-full, send-nothing, send-standing, send-twice}
 
 -- ---- what an outcome says
 
@@ -26,9 +26,6 @@ module _ (n : ℕ) (small : n ≤ 65536) {ts : List ℕ} {count : ℕ} (v : Vali
   pub send-accepted : Words 8 ws → ((i : ℕ) → marked ws i ≡ true → i < count) → {ts′ ws′ : List ℕ} {count′ : ℕ}
       → sendOf ts ws count ms ≡ sent count′ ts′ ws′ → SentIs n ts ws count ms ts′ ws′ count′
   send-accepted words within e = sent-accepted n small v ws ms writes words within e
-
-  pub send-full : {k : ℕ} {ts′ ws′ : List ℕ} → sendOf ts ws count ms ≡ refused k ts′ ws′ → SendRefused ts ws count ms k ts′ ws′
-  send-full e = sent-refused n small v ws ms writes e
 
   -- ---- messages are sent exactly where their terms all fit
 

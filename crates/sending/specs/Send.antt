@@ -117,10 +117,3 @@ pub record SentIs (n : ℕ) (ts ws : List ℕ) (count : ℕ) (ms : List Message)
   pub within : (i : ℕ) → marked ws′ i ≡ true → i < count′
   -- on the wire is what was there before, and the messages
   pub wire : (m : Message) → Known ts′ count′ ws′ m ↔ (Known ts count ws m ⊎ List·Memᴰ m ms)
-
--- the messages were refused: with them there would be more than 512 terms
-pub record SendRefused (ts ws : List ℕ) (count : ℕ) (ms : List Message) (number : ℕ) (ts′ ws′ : List ℕ) : Type 0 where
-  pub twenty : number ≡ 20
-  pub terms : ts′ ≡ ts
-  pub wire : ws′ ≡ ws
-  pub full : 512 < length (addAll ms (meanings ts count))

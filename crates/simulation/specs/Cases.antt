@@ -20,7 +20,7 @@ use Rattle.terms.specs.Meaning.{messageAt}
 use Rattle.terms.specs.Number.{place, wordIn}
 use Rattle.terms.specs.Rules.{refusalOf}
 use Rattle.terms.specs.Table.{findOf}
-use Rattle.terms.specs.Valid.{stands, allStand, holds}
+use Rattle.terms.specs.Valid.{stands, holds}
 use Rattle.messages.specs.Entered.{withWord, entered}
 use Rattle.synthesis.specs.Sweep.{visitOf, sweepOf}
 use Rattle.synthesis.specs.Test.{saturateOf, composesOf, derivableOf}
@@ -182,5 +182,5 @@ cases = refl
 
 -- the tables that they start from hold together
 pub cases-start : map (λ c. together (c .start)) table ≡ replicate (length table) true
-unfolding together headerFits holds allStand stands refusalOf findOf rowsHold each rowHolds wireHolds within clear entriesHold marked mark isSet bit termOf wordOf
+unfolding together headerFits holds stands refusalOf findOf rowsHold each rowHolds wireHolds within clear entriesHold marked mark isSet bit termOf wordOf
 cases-start = refl

@@ -14,27 +14,21 @@ use Rattle.words.specs.declared.Term.the-variants.{Principal, Time, Nonce, Long
 use Rattle.terms.specs.Choice.{Decides, proved, refuted, no-true}
 use Rattle.terms.specs.Meaning.{keyOf, messageOf, messageAt, message-at, key-at}
 use Rattle.terms.specs.Message.{Message, key}
+use Rattle.terms.specs.Operands.{byOperands}
 use Rattle.terms.specs.Rules.{termAt, isKey, Fields}
 use Rattle.terms.specs.Valid.{Valid, fields-at}
 use Rattle.words.specs.Word.{TimeFits, time-fits}
 use Rattle.synthesis.specs.declared.compose.Operands.{Operands}
 use Rattle.synthesis.specs.declared.compose.Operands.the-variants.{Two, Atom}
 use Rattle.deduction.specs.Known.{Known, known-self}
-use Rattle.deduction.specs.Public.{publicOf, public-free, free-public}
+use Rattle.deduction.specs.Public.{Free, publicOf, public-free, free-public}
 use Rattle.deduction.specs.Synth.{Synth, of-known, synth-map}
 
 -- ---- definitions
 
 -- a term's operands
 abbrev pub operandsOf : Term → Operands
-operandsOf (Principal p) = Atom
-operandsOf (Time t) = Atom
-operandsOf (Nonce k) = Atom
-operandsOf (LongTermKey p) = Atom
-operandsOf (SessionKey k) = Atom
-operandsOf (Pair l r) = Two l r
-operandsOf (Encrypted b k) = Two b k
-operandsOf Unknown = Atom
+operandsOf = byOperands Atom Two Two
 
 -- term t can be put together from the terms of the set ws
 abbrev pub Composable : (n flags : ℕ) (ts : List ℕ) (count : ℕ) (ws : List ℕ) (t : ℕ) → Type 0
@@ -59,21 +53,17 @@ TwoWay n flags ts at sub K t Atom =
 module _ (n flags : ℕ) (ts : List ℕ) (at : ℕ) (sub : ℕ → Message) (K : Message → Type 0)
     (is-key : (k : ℕ) → k < at → isKey (termAt ts k) ≡ true → sub k ≡ key (keyOf (sub k))) where
   -- a term without operands is public or not
-  atom : (t : Term) → Fields n ts at t → TimeFits t → {X : Type 0} → (Synth n flags K (messageOf sub t) → K (messageOf sub t) ⊎ X)
-      → (X → publicOf flags t ≡ true) → Synth n flags K (messageOf sub t) → K (messageOf sub t) ⊎ (publicOf flags t ≡ true)
-  atom t f h split g y = ⊎-elim (λ k. inl k) (λ z. inr (g z)) (split y)
+  atom : (t : Term) → Fields n ts at t → TimeFits t → (Free n flags (messageOf sub t) → Synth n flags K (messageOf sub t))
+      → (Synth n flags K (messageOf sub t) → K (messageOf sub t) ⊎ Free n flags (messageOf sub t)) → TwoWay n flags ts at sub K t Atom
+  atom t f h put split =
+      (λ e. put (public-free n flags ts at sub t f h e), λ y. ⊎-elim (λ k. inl k) (λ z. inr (free-public n flags ts at sub t f z)) (split y))
 
   two-way : (t : Term) → Fields n ts at t → TimeFits t → TwoWay n flags ts at sub K t (operandsOf t)
-  two-way (Principal p) f t =
-      (λ e. inr (public-free n flags ts at sub (Principal p) f t e), atom (Principal p) f t (λ y. y) (free-public n flags ts at sub (Principal p) f))
-  two-way (Time x) f t =
-      (λ e. inr (public-free n flags ts at sub (Time x) f t e), atom (Time x) f t (λ y. y) (free-public n flags ts at sub (Time x) f))
-  two-way (Nonce i) f t =
-      (λ e. inr (public-free n flags ts at sub (Nonce i) f t e), atom (Nonce i) f t (λ y. y) (free-public n flags ts at sub (Nonce i) f))
-  two-way (LongTermKey p) f t =
-      (λ e. inr (public-free n flags ts at sub (LongTermKey p) f t e), atom (LongTermKey p) f t (λ y. y) (free-public n flags ts at sub (LongTermKey p) f))
-  two-way (SessionKey i) f t =
-      (λ e. inr (public-free n flags ts at sub (SessionKey i) f t e), atom (SessionKey i) f t (λ y. y) (free-public n flags ts at sub (SessionKey i) f))
+  two-way (Principal p) f t = atom (Principal p) f t (λ z. inr z) (λ y. y)
+  two-way (Time x) f t = atom (Time x) f t (λ z. inr z) (λ y. y)
+  two-way (Nonce i) f t = atom (Nonce i) f t (λ z. inr z) (λ y. y)
+  two-way (LongTermKey p) f t = atom (LongTermKey p) f t (λ z. inr z) (λ y. y)
+  two-way (SessionKey i) f t = atom (SessionKey i) f t (λ z. inr z) (λ y. y)
   two-way (Pair l r) f t = (f .0, f .1, λ a b. inr (a, b), λ y. y)
   two-way (Encrypted b k) f t =
       let e = is-key k (f .1) (f .2) in

@@ -1,8 +1,8 @@
 -- One sweep over the known terms from the last to the first: known pairs, and known encryptions that can be opened, make
 -- their parts known. A sweep that adds nothing shows that the set is saturated.
 -- Assumes nothing.
-use mathlib.Core.Path.{_≡_, refl, sym, ap, _∙_, subst}
-use mathlib.Core.Logic.{_⊎_, ⊎-elim}
+use mathlib.Core.Path.{_≡_, sym, ap, _∙_, subst}
+use mathlib.Core.Logic.{_⊎_, ⊎-elim, dite}
 use mathlib.Core.Bool.{Bool, true, cond}
 use mathlib.Core.List.{List}
 use Prim.Native.Nat.{ℕ, zero, suc, _*_, _<_, _≤_}
@@ -13,25 +13,19 @@ use lib.ListN.{length}
 use Rattle.marks.specs.Grown.{Grown, grown-refl, grown-trans, grown-with}
 use Rattle.marks.specs.Marks.{Words, marked, withMark, size, marked-same, marked-keeps, marked-new, with-length}
 use Rattle.words.specs.declared.Term.{Term}
-use Rattle.words.specs.declared.Term.the-variants.{Principal, Time, Nonce, LongTermKey, SessionKey, Pair, Encrypted, Unknown}
+use Rattle.words.specs.declared.Term.the-variants.{Pair, Encrypted}
 use Rattle.terms.specs.Choice.{cond-elim}
 use Rattle.terms.specs.Message.{Message}
-use Rattle.terms.specs.Rules.{termAt, Fields}
-use Rattle.terms.specs.Valid.{Valid, fields-at, fields-of}
+use Rattle.terms.specs.Operands.{byOperands, operands-elim}
+use Rattle.terms.specs.Rules.{termAt}
+use Rattle.terms.specs.Valid.{Valid, fields-of}
 use Rattle.deduction.specs.Known.{Saturated}
 use Rattle.deduction.specs.Opens.{opensOf, opens-if, Sure, key-sure, left-sure, right-sure, body-sure}
 use Rattle.deduction.specs.Public.{publicOf}
 
 -- the set after a known term was looked at
 abbrev pub partsOf : ℕ → List ℕ → List ℕ → Term → List ℕ
-partsOf flags ts ws (Principal p) = ws
-partsOf flags ts ws (Time t) = ws
-partsOf flags ts ws (Nonce k) = ws
-partsOf flags ts ws (LongTermKey p) = ws
-partsOf flags ts ws (SessionKey k) = ws
-partsOf flags ts ws (Pair l r) = withMark (withMark ws l) r
-partsOf flags ts ws (Encrypted b k) = cond (opensOf flags ts ws k) (withMark ws b) ws
-partsOf flags ts ws Unknown = ws
+partsOf flags ts ws = byOperands ws (λ l r. withMark (withMark ws l) r) (λ b k. cond (opensOf flags ts ws k) (withMark ws b) ws)
 
 unfoldable pub visitOf : ℕ → List ℕ → List ℕ → ℕ → List ℕ
 visitOf flags ts ws i = cond (marked ws i) (partsOf flags ts ws (termAt ts i)) ws
@@ -43,26 +37,21 @@ sweepOf flags ts (suc m) ws = sweepOf flags ts m (visitOf flags ts ws m)
 
 -- ---- the set grows
 
-parts-grown : (n flags : ℕ) (ts : List ℕ) (at : ℕ) {ws : List ℕ} → Words 8 ws → at < 512
-    → (t : Term) → Fields n ts at t → Grown 8 ws (partsOf flags ts ws t)
-parts-grown n flags ts at w h (Principal p) f = grown-refl w
-parts-grown n flags ts at w h (Time t) f = grown-refl w
-parts-grown n flags ts at w h (Nonce k) f = grown-refl w
-parts-grown n flags ts at w h (LongTermKey p) f = grown-refl w
-parts-grown n flags ts at w h (SessionKey k) f = grown-refl w
-parts-grown n flags ts at w h (Pair l r) f =
-    let g = grown-with w l (omega (arith, f .0)) in
-    grown-trans g (grown-with (g .words) r (omega (arith, f .1)))
-parts-grown n flags ts at {ws} w h (Encrypted b k) f =
-    cond-elim (Grown 8 ws) (opensOf flags ts ws k) (withMark ws b) ws (λ _. grown-with w b (omega (arith, f .0))) (λ _. grown-refl w)
-parts-grown n flags ts at w h Unknown f = grown-refl w
-
 module _ (flags : ℕ) {n : ℕ} {ts : List ℕ} {count : ℕ} (v : Valid n ts count) where
   visit-grown : {ws : List ℕ} → Words 8 ws → (i : ℕ) → i < count → Grown 8 ws (visitOf flags ts ws i)
   unfolding visitOf
   visit-grown {ws} w i h =
       cond-elim (Grown 8 ws) (marked ws i) (partsOf flags ts ws (termAt ts i)) ws
-      (λ _. parts-grown n flags ts i w (omega (arith, v .room)) (termAt ts i) (fields-at (v .terms) i h)) (λ _. grown-refl w)
+      (λ _.
+      operands-elim (Grown 8 ws) ws (λ l r. withMark (withMark ws l) r) (λ b k. cond (opensOf flags ts ws k) (withMark ws b) ws) (termAt ts i) (grown-refl w)
+      (λ l r e.
+      let f = fields-of (v .terms) i h e in
+      let g = grown-with w l (omega (arith, v .room, f .0)) in
+      grown-trans g (grown-with (g .words) r (omega (arith, v .room, f .1))))
+      (λ b k e.
+      cond-elim (Grown 8 ws) (opensOf flags ts ws k) (withMark ws b) ws
+      (λ _. grown-with w b (omega (arith, v .room, fields-of (v .terms) i h e .0))) (λ _. grown-refl w)))
+      (λ _. grown-refl w)
 
   pub sweep-grown : (m : ℕ) → m ≤ count → {ws : List ℕ} → Words 8 ws → Grown 8 ws (sweepOf flags ts m ws)
   unfolding sweepOf
@@ -76,23 +65,11 @@ module _ (flags : ℕ) {n : ℕ} {ts : List ℕ} {count : ℕ} (v : Valid n ts c
       → (i : ℕ) → i < m → visitOf flags ts ws i ≡ ws
   unfolding sweepOf
   still zero h w e i lt = absurd (omega arith)
-  still (suc m) h {ws} w e i lt = by-eq (λ k. still m (omega arith) w e′ i k) (ℕ-discrete i m)
-    where
-      g : Grown 8 ws (visitOf flags ts ws m)
-      g = visit-grown w m h
-
-      g′ : Grown 8 (visitOf flags ts ws m) (sweepOf flags ts m (visitOf flags ts ws m))
-      g′ = sweep-grown m (omega arith) (g .words)
-
-      idle : visitOf flags ts ws m ≡ ws
-      idle = g .same (omega (arith, g .more, g′ .more, e))
-
-      e′ : size (sweepOf flags ts m ws) ≡ size ws
-      e′ = subst (λ (x : List ℕ). size (sweepOf flags ts m x) ≡ size ws) idle e
-
-      by-eq : (i < m → visitOf flags ts ws i ≡ ws) → Dec (i ≡ m) → visitOf flags ts ws i ≡ ws
-      by-eq rest (yes q) = rw q idle
-      by-eq rest (no ne) = rest (omega arith)
+  still (suc m) h {ws} w e i lt =
+      let g = visit-grown w m h in
+      let idle : visitOf flags ts ws m ≡ ws = g .same (omega (arith, g .more, sweep-grown m (omega arith) (g .words) .more, e)) in
+      dite (ℕ-discrete i m) (λ q. rw q idle)
+      (λ ne. still m (omega arith) w (subst (λ (x : List ℕ). size (sweepOf flags ts m x) ≡ size ws) idle e) i (omega arith))
 
 -- ---- where nothing is added, the set is saturated
 
@@ -140,27 +117,22 @@ module _ (flags : ℕ) {n : ℕ} {ts : List ℕ} {count : ℕ} (v : Valid n ts c
   with-sound {ws} w i h s d k hk m =
       ⊎-elim (λ e. subst (Sure flags v Wire) (sym e) d) (λ m′. s k hk m′) (marked-new ws i (omega (arith, w .len)) k m)
 
-  parts-sound : {ws : List ℕ} → Words 8 ws → Sound ws → (i : ℕ) → i < count → Sure flags v Wire i → (t : Term) → termAt ts i ≡ t → Sound (partsOf flags ts ws t)
-  parts-sound w s i h d (Principal p) e = s
-  parts-sound w s i h d (Time t) e = s
-  parts-sound w s i h d (Nonce k) e = s
-  parts-sound w s i h d (LongTermKey p) e = s
-  parts-sound w s i h d (SessionKey k) e = s
-  parts-sound {ws} w s i h d (Pair l r) e =
+  parts-sound : {ws : List ℕ} → Words 8 ws → Sound ws → (i : ℕ) → i < count → Sure flags v Wire i → Sound (partsOf flags ts ws (termAt ts i))
+  parts-sound {ws} w s i h d =
+      operands-elim Sound ws (λ l r. withMark (withMark ws l) r) (λ b k. cond (opensOf flags ts ws k) (withMark ws b) ws) (termAt ts i) s
+      (λ l r e.
       let f = fields-of (v .terms) i h e in
       let hl : l < 512 = omega (arith, v .room, f .0) in
-      let hr : r < 512 = omega (arith, v .room, f .1) in
-      with-sound (grown-with w l hl .words) r hr (with-sound w l hl s (left-sure flags v Wire i h l r e d)) (right-sure flags v Wire i h l r e d)
-  parts-sound {ws} w s i h d (Encrypted b k) e =
+      with-sound (grown-with w l hl .words) r (omega (arith, v .room, f .1)) (with-sound w l hl s (left-sure flags v Wire i h l r e d)) (right-sure flags v Wire i h l r e d))
+      (λ b k e.
       let f = fields-of (v .terms) i h e in
       cond-elim Sound (opensOf flags ts ws k) (withMark ws b) ws
-      (λ o. with-sound w b (omega (arith, v .room, f .0)) s (body-sure flags v Wire i h b k e d (key-sure flags v Wire ws s k (omega (arith, f .1)) o))) (λ _. s)
-  parts-sound w s i h d Unknown e = s
+      (λ o. with-sound w b (omega (arith, v .room, f .0)) s (body-sure flags v Wire i h b k e d (key-sure flags v Wire ws s k (omega (arith, f .1)) o))) (λ _. s))
 
   visit-sound : {ws : List ℕ} → Words 8 ws → Sound ws → (i : ℕ) → i < count → Sound (visitOf flags ts ws i)
   unfolding visitOf
   visit-sound {ws} w s i h =
-      cond-elim Sound (marked ws i) (partsOf flags ts ws (termAt ts i)) ws (λ m. parts-sound w s i h (s i h m) (termAt ts i) refl) (λ _. s)
+      cond-elim Sound (marked ws i) (partsOf flags ts ws (termAt ts i)) ws (λ m. parts-sound w s i h (s i h m)) (λ _. s)
 
   pub sweep-sound : (m : ℕ) → m ≤ count → {ws : List ℕ} → Words 8 ws → Sound ws → Sound (sweepOf flags ts m ws)
   unfolding sweepOf

@@ -9,7 +9,7 @@ use native.Mathlib.Omega.{arith}
 use borrow.Author.Tests.{eqb-true, eqb-false}
 use lib.Dec.{eqb}
 use Rattle.marks.specs.Marks.{Words, marked, size}
-use Rattle.terms.specs.Choice.{Decides, cond-elim, proved, refuted, same-answer}
+use Rattle.terms.specs.Choice.{Decides, cond-elim, proved, refuted}
 use Rattle.terms.specs.Descend.{layers, descend}
 use Rattle.terms.specs.Meaning.{messageAt}
 use Rattle.terms.specs.Rules.{termAt}
@@ -107,16 +107,9 @@ decided flags {n} {ts} {count} v {ws} {ws₁} t f b =
           (derives-synth flags ws₁ v (f .full) (λ m k. record { at = k .at; below = k .below; mark = f .holds (k .at) (k .below) (k .mark); is = k .is }) d);
     }
 
-module _ (flags : ℕ) {n : ℕ} {ts : List ℕ} {count : ℕ} (v : Valid n ts count) {ws : List ℕ} (w : Words 8 ws) (t : ℕ) (h : t < count) where
-  pub test-decides : Decides (derivableOf flags ts count ws t) (Derivable n flags ts count ws t)
-  unfolding derivableOf
-  test-decides =
-      let s = saturateOf flags ts count 513 ws in
-      decided flags v t (saturate-fills flags v 513 (fill-start flags v w) (omega arith)) (composes-decides flags v s t h)
-
-  -- a test of the same has its answer
-  pub derivable-is : (r : Bool) → Decides r (Derivable n flags ts count ws t) → r ≡ derivableOf flags ts count ws t
-  derivable-is r d = same-answer r (derivableOf flags ts count ws t) d test-decides
-
-  pub derivable-decides : (r : Bool) → r ≡ derivableOf flags ts count ws t → Decides r (Derivable n flags ts count ws t)
-  derivable-decides r e = rw e test-decides
+pub test-decides : (flags : ℕ) {n : ℕ} {ts : List ℕ} {count : ℕ} (v : Valid n ts count) {ws : List ℕ} → Words 8 ws → (t : ℕ) → t < count
+    → Decides (derivableOf flags ts count ws t) (Derivable n flags ts count ws t)
+unfolding derivableOf
+test-decides flags {ts = ts} {count} v {ws} w t h =
+    let s = saturateOf flags ts count 513 ws in
+    decided flags v t (saturate-fills flags v 513 (fill-start flags v w) (omega arith)) (composes-decides flags v s t h)

@@ -6,7 +6,8 @@ use marks::is_within;
 use marks::load;
 use terms::rules::REFUSE_RANGE;
 use terms::rules::REFUSE_TABLES;
-ghost use Rattle.synthesis.specs.Lent.{AnswerIs};
+ghost use mathlib.Core.Path.{_≡_};
+ghost use Rattle.synthesis.specs.Lent.{canDerive};
 
 // Words in the packed set of terms on the wire.
 pub const WIRE_WORDS: usize = 8;
@@ -19,7 +20,7 @@ pub enum Answer {
 
 // Whether the intruder can derive term t.
 pub fn can_derive(terms: &[u64], count: usize, who: Principals, wire: &[u64], t: usize) -> Answer
-    ensures { λ r. ⌜ AnswerIs (who .n) (who .flags) (now (terms .entry)) count (now (wire .entry)) t r ⌝ }
+    ensures { λ r. ⌜ r ≡ canDerive (who .n) (who .flags) (now (terms .entry)) count (now (wire .entry)) t ⌝ }
 {
     let n = who.n;
     if !holds_together(terms, count, n) {

@@ -2,6 +2,7 @@
 -- Assumes nothing.
 use mathlib.Core.Path.{_≡_, refl}
 use mathlib.Core.Bool.{Bool, true, _&&_, and-eq-true-iff}
+use mathlib.Core.Logic.{dite}
 use Prim.Native.Nat.{ℕ, zero, suc, _<_}
 use native.Mathlib.Decide.{ℕ-discrete}
 use native.Mathlib.Omega.{arith}
@@ -31,11 +32,9 @@ each f (suc m) = each f m && f m
 pub each-true : (f : ℕ → Bool) (m : ℕ) → each f m ≡ true → (i : ℕ) → i < m → f i ≡ true
 unfolding each
 each-true f zero e i h = absurd (omega arith)
-each-true f (suc m) e i h = let b = and-eq-true-iff (each f m) (f m) .0 e in by-eq (each-true f m (b .0) i) (b .1) (ℕ-discrete i m)
-  where
-    by-eq : (i < m → f i ≡ true) → f m ≡ true → Dec (i ≡ m) → f i ≡ true
-    by-eq below last (yes q) = rw q last
-    by-eq below last (no n) = below (omega arith)
+each-true f (suc m) e i h =
+    let b = and-eq-true-iff (each f m) (f m) .0 e in
+    dite (ℕ-discrete i m) (λ q. rw q (b .1)) (λ ne. each-true f m (b .0) i (omega arith))
 
 pub true-each : (f : ℕ → Bool) (m : ℕ) → ((i : ℕ) → i < m → f i ≡ true) → each f m ≡ true
 unfolding each

@@ -24,6 +24,11 @@ pub cond-elim : {A : Type 0} (P : A → Type 0) (c : Bool) (a b : A) → (c ≡ 
 cond-elim P true a b f g = f refl
 cond-elim P false a b f g = g refl
 
+-- which was chosen, where only one can be
+pub cond-first : {A : Type 0} (c : Bool) {a b x : A} → (b ≡ x → ⊥) → cond c a b ≡ x → (c ≡ true) × (a ≡ x)
+cond-first true f e = (refl, e)
+cond-first false f e = absurd (f e)
+
 -- behind a test, only what the test lets pass matters
 pub and-same : (a b c : Bool) → (a ≡ true → b ≡ c) → a && b ≡ a && c
 and-same true b c f = f refl

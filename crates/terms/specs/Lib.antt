@@ -4,6 +4,7 @@ pub mod AllOf
 pub mod Message
 pub mod Descend
 pub mod Rules
+pub mod Operands
 pub mod Table
 pub mod Valid
 pub mod Meaning

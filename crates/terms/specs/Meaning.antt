@@ -12,8 +12,9 @@ use Rattle.words.specs.declared.Term.the-variants.{Principal, Time, Nonce, Long
 use Rattle.terms.specs.Choice.{no-true}
 use Rattle.terms.specs.Descend.{descend, Falls, descend-at, descend-same}
 use Rattle.terms.specs.Message.{Key, longTerm, session, Message, principal, time, nonce, key, pair, encrypted}
-use Rattle.terms.specs.Rules.{termAt, isKey, Fields, Agree}
-use Rattle.terms.specs.Valid.{Terms, fields-at}
+use Rattle.terms.specs.Operands.{byOperands, operands-elim}
+use Rattle.terms.specs.Rules.{termAt, isKey, Agree}
+use Rattle.terms.specs.Valid.{Terms, fields-of}
 use Rattle.words.specs.Word.{termOf}
 
 -- ---- definitions
@@ -49,27 +50,13 @@ messageAt ts = descend (principal 0) (readTerm ts)
 
 -- operands are below m
 abbrev pub Under : ℕ → Term → Type 0
-Under m (Principal p) = Unit {0}
-Under m (Time t) = Unit {0}
-Under m (Nonce i) = Unit {0}
-Under m (LongTermKey p) = Unit {0}
-Under m (SessionKey i) = Unit {0}
-Under m (Pair l r) = (l < m) × (r < m)
-Under m (Encrypted b k) = (b < m) × (k < m)
-Under m Unknown = Unit {0}
-
-pub under-of : (n : ℕ) (ts : List ℕ) (at m : ℕ) → at ≤ m → (t : Term) → Fields n ts at t → Under m t
-under-of n ts at m h (Principal p) f = tt
-under-of n ts at m h (Time t) f = tt
-under-of n ts at m h (Nonce i) f = tt
-under-of n ts at m h (LongTermKey p) f = tt
-under-of n ts at m h (SessionKey i) f = tt
-under-of n ts at m h (Pair l r) f = (omega (arith, f .0), omega (arith, f .1))
-under-of n ts at m h (Encrypted b k) f = (omega (arith, f .0), omega (arith, f .1))
-under-of n ts at m h Unknown f = tt
+Under m = byOperands (Unit {0}) (λ l r. (l < m) × (r < m)) (λ b k. (b < m) × (k < m))
 
 pub under-at : {n : ℕ} {ts : List ℕ} {count : ℕ} → Terms n ts count → (i m : ℕ) → i < count → i ≤ m → Under m (termAt ts i)
-under-at {n} {ts} v i m h le = under-of n ts i m le (termAt ts i) (fields-at v i h)
+under-at {ts = ts} v i m h le =
+    operands-elim (λ (X : Type 0). X) (Unit {0}) (λ l r. (l < m) × (r < m)) (λ b k. (b < m) × (k < m)) (termAt ts i) tt
+    (λ l r e. let f = fields-of v i h e in (omega (arith, f .0), omega (arith, f .1)))
+    (λ b k e. let f = fields-of v i h e in (omega (arith, f .0), omega (arith, f .1)))
 
 -- ---- a term's message is that of its operands' messages
 

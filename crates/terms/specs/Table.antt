@@ -3,6 +3,7 @@
 -- Assumes nothing.
 use mathlib.Core.Path.{_≡_, refl, ap, _∙_, subst}
 use mathlib.Core.Bool.{Bool, true, false, cond}
+use mathlib.Core.Logic.{dite}
 use mathlib.Core.List.{List, _++_}
 use Prim.Native.Nat.{ℕ, zero, suc, _+_, _-_, _<_}
 use native.Mathlib.Decide.{ℕ-discrete}
@@ -36,11 +37,8 @@ FoundIs ts m w Nothing = Absent ts m w
 
 found-more : (ts : List ℕ) (m w : ℕ) → (getD ts m 0 ≡ w → ⊥) → (f : Found) → FoundIs ts m w f → FoundIs ts (suc m) w f
 found-more ts m w ne (At i) h = (omega (arith, h .0), h .1)
-found-more ts m w ne Nothing h = λ k lt e. by-eq k lt e (ℕ-discrete k m)
-  where
-    by-eq : (k : ℕ) → k < suc m → getD ts k 0 ≡ w → Dec (k ≡ m) → ⊥
-    by-eq k lt e (yes q) = ne (subst (λ (x : ℕ). getD ts x 0 ≡ w) q e)
-    by-eq k lt e (no q) = h k (omega arith) e
+found-more ts m w ne Nothing h = λ k lt e.
+    dite (ℕ-discrete k m) (λ q. ne (subst (λ (x : ℕ). getD ts x 0 ≡ w) q e)) (λ q. h k (omega arith) e)
 
 pub found-is : (ts : List ℕ) (m w : ℕ) → FoundIs ts m w (findOf ts m w)
 unfolding findOf

@@ -4,8 +4,9 @@
 -- Assumes nothing.
 use mathlib.Core.Path.{_≡_, refl, sym, ap, _∙_, subst}
 use mathlib.Core.Bool.{Bool, true, false, _&&_, and-eq-true-iff}
+use mathlib.Core.Logic.{dite}
 use mathlib.Core.List.{List}
-use Prim.Native.Nat.{ℕ, zero, suc, _<_, _≤_}
+use Prim.Native.Nat.{ℕ, suc, _<_, _≤_}
 use native.Mathlib.Decide.{ℕ-discrete, decLt}
 use native.Mathlib.Omega.{arith}
 use borrow.Author.Tests.{eqb-true, leb-true, eq-eqb, le-leb}
@@ -15,6 +16,7 @@ use Rattle.words.specs.declared.Term.{Term}
 use Rattle.terms.specs.declared.table.Found.{Found}
 use Rattle.terms.specs.declared.table.Found.the-variants.{At, Nothing}
 use Rattle.terms.specs.Choice.{no-true}
+use Rattle.terms.specs.AllOf.{each, each-true, true-each}
 use Rattle.terms.specs.Rules.{refusalOf, Agree, refusal-same, termAt, Passed, passed, Fields, fields}
 use Rattle.terms.specs.Table.{findOf, Absent, found-at, find-absent}
 
@@ -39,12 +41,8 @@ isNothing Nothing = true
 unfoldable pub stands : (n : ℕ) (ts : List ℕ) (i : ℕ) → Bool
 stands n ts i = eqb (refusalOf n ts i (getD ts i 0)) 0 && isNothing (findOf ts i (getD ts i 0))
 
-unfoldable pub allStand : (n : ℕ) (ts : List ℕ) (count : ℕ) → Bool
-allStand n ts zero = true
-allStand n ts (suc m) = allStand n ts m && stands n ts m
-
 unfoldable pub holds : (n : ℕ) (ts : List ℕ) (count : ℕ) → Bool
-holds n ts count = eqb (length ts) 512 && (leb count 512 && allStand n ts count)
+holds n ts count = eqb (length ts) 512 && (leb count 512 && each (stands n ts) count)
 
 -- ---- the test says what `Valid` says
 
@@ -75,53 +73,31 @@ pub terms-of : {n : ℕ} {ts : List ℕ} {count : ℕ} → ((i : ℕ) → i < co
 terms-of {n} {ts} {count} all = record { fine = λ i h. all i h .fine; once = once }
   where
     once : (i j : ℕ) → i < count → j < count → getD ts i 0 ≡ getD ts j 0 → i ≡ j
-    once i j hi hj e = by-eq (ℕ-discrete i j)
-      where
-        by-lt : Dec (i < j) → (i ≡ j → ⊥) → ⊥
-        by-lt (yes lt) ne = all j hj .new i lt e
-        by-lt (no ge) ne = all i hi .new j (omega arith) (sym e)
-
-        by-eq : Dec (i ≡ j) → i ≡ j
-        by-eq (yes q) = q
-        by-eq (no ne) = absurd (by-lt (decLt i j) ne)
+    once i j hi hj e =
+        dite (ℕ-discrete i j) (λ q. q) (λ ne. absurd (dite (decLt i j) (λ lt. all j hj .new i lt e) (λ ge. all i hi .new j (omega arith) (sym e))))
 
 pub terms-stand : {n : ℕ} {ts : List ℕ} {count : ℕ} → Terms n ts count → (i : ℕ) → i < count → Stands n ts i
 terms-stand v i h =
     record { fine = v .fine i h; new = λ k lt e. let q : k ≡ i = v .once k i (omega arith) h e in omega arith }
 
-pub all-stand : (n : ℕ) (ts : List ℕ) (count : ℕ) → allStand n ts count ≡ true → (i : ℕ) → i < count → Stands n ts i
-unfolding allStand
-all-stand n ts zero e i h = absurd (omega arith)
-all-stand n ts (suc m) e i h =
-    let b = and-eq-true-iff (allStand n ts m) (stands n ts m) .0 e in
-    by-eq (all-stand n ts m (b .0) i) (stands-is n ts m (b .1)) (ℕ-discrete i m)
-  where
-    by-eq : (i < m → Stands n ts i) → Stands n ts m → Dec (i ≡ m) → Stands n ts i
-    by-eq below last (yes q) = rw q last
-    by-eq below last (no ne) = below (omega arith)
-
-stand-all : (n : ℕ) (ts : List ℕ) (count : ℕ) → ((i : ℕ) → i < count → Stands n ts i) → allStand n ts count ≡ true
-unfolding allStand
-stand-all n ts zero all = refl
-stand-all n ts (suc m) all =
-    and-eq-true-iff (allStand n ts m) (stands n ts m) .1 (stand-all n ts m (λ i h. all i (omega arith)), is-stands (all m (omega arith)))
-
 pub holds-valid : (n : ℕ) (ts : List ℕ) (count : ℕ) → holds n ts count ≡ true → Valid n ts count
 unfolding holds
 holds-valid n ts count e =
-    let b = and-eq-true-iff (eqb (length ts) 512) (leb count 512 && allStand n ts count) .0 e in
-    let d = and-eq-true-iff (leb count 512) (allStand n ts count) .0 (b .1) in
+    let b = and-eq-true-iff (eqb (length ts) 512) (leb count 512 && each (stands n ts) count) .0 e in
+    let d = and-eq-true-iff (leb count 512) (each (stands n ts) count) .0 (b .1) in
     record {
       size = eqb-true (length ts) 512 (b .0);
       room = leb-true count 512 (d .0);
-      terms = terms-of (all-stand n ts count (d .1));
+      terms = terms-of (λ i h. stands-is n ts i (each-true (stands n ts) count (d .1) i h));
     }
 
 pub valid-holds : {n : ℕ} {ts : List ℕ} {count : ℕ} → Valid n ts count → holds n ts count ≡ true
 unfolding holds
 valid-holds {n} {ts} {count} v =
-    and-eq-true-iff (eqb (length ts) 512) (leb count 512 && allStand n ts count) .1
-    (eq-eqb (length ts) 512 (v .size), and-eq-true-iff (leb count 512) (allStand n ts count) .1 (le-leb count 512 (v .room), stand-all n ts count (terms-stand (v .terms))))
+    and-eq-true-iff (eqb (length ts) 512) (leb count 512 && each (stands n ts) count) .1 (
+      eq-eqb (length ts) 512 (v .size),
+      and-eq-true-iff (leb count 512) (each (stands n ts) count) .1 (le-leb count 512 (v .room), true-each (stands n ts) count (λ i h. is-stands (terms-stand (v .terms) i h))),
+    )
 
 -- ---- what the rules give at each term
 
@@ -146,8 +122,5 @@ terms-same {n} {ts} {count} v ts′ g =
 
 pub terms-more : {n : ℕ} {ts : List ℕ} {count : ℕ} → Terms n ts count → refusalOf n ts count (getD ts count 0) ≡ 0
     → Absent ts count (getD ts count 0) → Terms n ts (suc count)
-terms-more {n} {ts} {count} v r a = terms-of (λ i h. by-eq i h (ℕ-discrete i count))
-  where
-    by-eq : (i : ℕ) → i < suc count → Dec (i ≡ count) → Stands n ts i
-    by-eq i h (yes e) = rw e (record { fine = r; new = a })
-    by-eq i h (no ne) = terms-stand v i (omega arith)
+terms-more {count = count} v r a =
+    terms-of (λ i h. dite (ℕ-discrete i count) (λ e. rw e (record { fine = r; new = a })) (λ ne. terms-stand v i (omega arith)))

@@ -2,7 +2,7 @@
 -- place the one before it under the same key. 0 ends a chain, since term 0 has no operands.
 -- Assumes nothing.
 use mathlib.Core.Path.{_≡_, refl, sym, ap, _∙_, subst}
-use mathlib.Core.Logic.{_⊎_, inl, inr, ⊎-elim}
+use mathlib.Core.Logic.{_⊎_, inl, inr, dite, ⊎-elim}
 use mathlib.Core.Bool.{Bool, true, false}
 use mathlib.Core.List.{List}
 use Prim.Native.Nat.{ℕ, zero, suc, _+_, _<_, _≤_}
@@ -13,6 +13,7 @@ use lib.Seq.{getD-set-same, getD-set-other}
 use Rattle.words.specs.declared.Term.{Term}
 use Rattle.words.specs.declared.Term.the-variants.{Principal, Time, Nonce, LongTermKey, SessionKey, Pair, Encrypted, Unknown}
 use Rattle.terms.specs.Choice.{no-true}
+use Rattle.terms.specs.Operands.{byOperands}
 use Rattle.terms.specs.Rules.{termAt, isKey, Fields}
 use Rattle.terms.specs.Valid.{Valid, fields-of}
 
@@ -20,14 +21,7 @@ use Rattle.terms.specs.Valid.{Valid, fields-of}
 
 -- the array after term i was looked at
 abbrev pub linkOf : Term → ℕ → List ℕ → List ℕ
-linkOf (Principal p) i c = c
-linkOf (Time t) i c = c
-linkOf (Nonce n) i c = c
-linkOf (LongTermKey p) i c = c
-linkOf (SessionKey n) i c = c
-linkOf (Pair l r) i c = c
-linkOf (Encrypted b k) i c = set (set c i (getD c k 0)) k i
-linkOf Unknown i c = c
+linkOf t i c = byOperands c (λ l r. c) (λ b k. set (set c i (getD c k 0)) k i) t
 
 -- and after the terms below m, the first first
 unfoldable pub chainsOf : List ℕ → ℕ → List ℕ → List ℕ
@@ -58,33 +52,26 @@ pub record Linked (ts : List ℕ) (count : ℕ) (c : List ℕ) : Type 0 where
 -- ---- a term that is no encryption ends no chain
 
 abbrev isEncrypted : Term → Bool
-isEncrypted (Principal p) = false
-isEncrypted (Time t) = false
-isEncrypted (Nonce n) = false
-isEncrypted (LongTermKey p) = false
-isEncrypted (SessionKey n) = false
-isEncrypted (Pair l r) = false
-isEncrypted (Encrypted b k) = true
-isEncrypted Unknown = false
+isEncrypted = byOperands false (λ l r. false) (λ b k. true)
 
 last-on : {ts : List ℕ} {k m e : ℕ} → ((b : ℕ) → termAt ts m ≡ Encrypted b k → ⊥) → LastUnder ts k m e → LastUnder ts k (suc m) e
-last-on {ts} {k} {m} {e} none l =
-    record { most = λ i b h q. by i b h q (ℕ-discrete i m); is = ⊎-elim (λ z. inl z) (λ x. inr (x .0, omega (arith, x .1), x .2)) (l .is) }
-  where
-    by : (i b : ℕ) → i < suc m → termAt ts i ≡ Encrypted b k → Dec (i ≡ m) → i ≤ e
-    by i b h q (yes same) = absurd (none b (subst (λ (x : ℕ). termAt ts x ≡ Encrypted b k) same q))
-    by i b h q (no ne) = l .most i b (omega arith) q
+last-on {ts} {k} {m} none l =
+    record {
+      most = λ i b h q.
+          dite (ℕ-discrete i m) (λ same. absurd (none b (subst (λ (x : ℕ). termAt ts x ≡ Encrypted b k) same q))) (λ ne. l .most i b (omega arith) q);
+      is = ⊎-elim (λ z. inl z) (λ x. inr (x .0, omega (arith, x .1), x .2)) (l .is);
+    }
 
 module _ {n : ℕ} {ts : List ℕ} {count : ℕ} (v : Valid n ts count) {c : List ℕ} (m : ℕ) (h : m < count) (ch : Chained ts count m c) where
   plain : isEncrypted (termAt ts m) ≡ false → Chained ts count (suc m) c
-  plain e = record { places = ch .places; last = λ k lt key. last-on (none k) (ch .last k lt key); before = λ i b k lt q. by i b k lt q (ℕ-discrete i m) }
-    where
-      none : (k b : ℕ) → termAt ts m ≡ Encrypted b k → ⊥
-      none k b q = no-true (sym e ∙ ap isEncrypted q)
-
-      by : (i b k : ℕ) → i < suc m → termAt ts i ≡ Encrypted b k → Dec (i ≡ m) → LastUnder ts k i (getD c i 0)
-      by i b k lt q (yes same) = absurd (none k b (subst (λ (x : ℕ). termAt ts x ≡ Encrypted b k) same q))
-      by i b k lt q (no ne) = ch .before i b k (omega arith) q
+  plain e =
+      let none : (k b : ℕ) → termAt ts m ≡ Encrypted b k → ⊥ = λ k b q. no-true (sym e ∙ ap isEncrypted q) in
+      record {
+        places = ch .places;
+        last = λ k lt key. last-on (none k) (ch .last k lt key);
+        before = λ i b k lt q.
+            dite (ℕ-discrete i m) (λ same. absurd (none k b (subst (λ (x : ℕ). termAt ts x ≡ Encrypted b k) same q))) (λ ne. ch .before i b k (omega arith) q);
+      }
 
   -- an encryption becomes the last under its key
   module _ (b k : ℕ) (e : termAt ts m ≡ Encrypted b k) where
@@ -110,23 +97,19 @@ module _ {n : ℕ} {ts : List ℕ} {count : ℕ} (v : Valid n ts count) {c : Lis
     linked =
         record {
           places = length-set c′ k m ∙ length-set c m (getD c k 0) ∙ ch .places;
-          last = λ i lt key. by-key i lt key (ℕ-discrete i k);
-          before = λ i b′ k′ lt q. by-self i b′ k′ lt q (ℕ-discrete i m);
+          last = λ i lt key.
+              dite (ℕ-discrete i k) (λ q. rw (q, at-key) (record { most = λ j x below _. omega arith; is = inr (b, omega arith, e) }))
+              (λ ne.
+              rw (at-other i ne (λ q. key-not m b k (subst (λ (x : ℕ). isKey (termAt ts x) ≡ true) q key) e))
+              (last-on (λ x q. ne (let z : Encrypted b k ≡ Encrypted x i = sym e ∙ q in let w : k ≡ i = cc in sym w)) (ch .last i lt key)));
+          before = λ i b′ k′ lt q.
+              dite (ℕ-discrete i m)
+              (λ s.
+              let z : Encrypted b k ≡ Encrypted b′ k′ = sym e ∙ subst (λ (x : ℕ). termAt ts x ≡ Encrypted b′ k′) s q in
+              let w : k′ ≡ k = cc in
+              rw (s, at-self, w) (ch .last k (omega (arith, fields .1, h)) (fields .2)))
+              (λ ne. rw (at-other i (λ s. key-not k b′ k′ (fields .2) (subst (λ (x : ℕ). termAt ts x ≡ Encrypted b′ k′) s q)) ne) (ch .before i b′ k′ (omega arith) q));
         }
-      where
-        by-key : (i : ℕ) → i < count → isKey (termAt ts i) ≡ true → Dec (i ≡ k) → LastUnder ts i (suc m) (getD (set c′ k m) i 0)
-        by-key i lt key (yes q) = rw (q, at-key) (record { most = λ j x below _. omega arith; is = inr (b, omega arith, e) })
-        by-key i lt key (no ne) =
-            rw (at-other i ne (λ q. key-not m b k (subst (λ (x : ℕ). isKey (termAt ts x) ≡ true) q key) e))
-            (last-on (λ x q. ne (let z : Encrypted b k ≡ Encrypted x i = sym e ∙ q in let w : k ≡ i = cc in sym w)) (ch .last i lt key))
-
-        by-self : (i b′ k′ : ℕ) → i < suc m → termAt ts i ≡ Encrypted b′ k′ → Dec (i ≡ m) → LastUnder ts k′ i (getD (set c′ k m) i 0)
-        by-self i b′ k′ lt q (yes s) =
-            let z : Encrypted b k ≡ Encrypted b′ k′ = sym e ∙ subst (λ (x : ℕ). termAt ts x ≡ Encrypted b′ k′) s q in
-            let w : k′ ≡ k = cc in
-            rw (s, at-self, w) (ch .last k (omega (arith, fields .1, h)) (fields .2))
-        by-self i b′ k′ lt q (no ne) =
-            rw (at-other i (λ s. key-not k b′ k′ (fields .2) (subst (λ (x : ℕ). termAt ts x ≡ Encrypted b′ k′) s q)) ne) (ch .before i b′ k′ (omega arith) q)
 
   link-by : (t : Term) → termAt ts m ≡ t → Chained ts count (suc m) (linkOf t m c)
   link-by (Principal p) e = plain (ap isEncrypted e)

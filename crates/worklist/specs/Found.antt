@@ -1,7 +1,7 @@
 -- The terms that have been found: a set of them, and a list in the order in which they were found. Each stands in the list once.
 -- Assumes nothing.
 use mathlib.Core.Path.{_≡_, refl, sym, _∙_}
-use mathlib.Core.Logic.{_⊎_, inr, ⊎-elim}
+use mathlib.Core.Logic.{_⊎_, inr, ⊎-elim, dite}
 use mathlib.Core.Bool.{true, false, cond}
 use mathlib.Core.List.{List}
 use Prim.Native.Nat.{ℕ, zero, suc, _+_, _*_, _<_, _≤_}
@@ -125,7 +125,9 @@ module _ (f : Found) (t : ℕ) (h : t < 512) where
           record {
             room = room-next (l .room) e;
             place = λ i m. ⊎-elim (λ q. (f .count, omega arith, here ∙ sym q)) (λ m′. moved i (l .place i m′)) (marked-new (f .known) t wide i m);
-            member = λ j below. by j below (ℕ-discrete j (f .count));
+            member = λ j below.
+                dite (ℕ-discrete j (f .count)) (λ q. rw (q, here) (marked-same (f .known) t wide))
+                (λ ne. rw (getD-set-other (f .list) (f .count) j t 0 ne) (marked-keeps (f .known) t wide (getD (f .list) j 0) (l .member j (omega arith))));
             below = λ i m. ⊎-elim (λ q. rw q lt) (λ m′. l .below i m′) (marked-new (f .known) t wide i m);
           }
         where
@@ -137,11 +139,6 @@ module _ (f : Found) (t : ℕ) (h : t < 512) where
 
           moved : (i : ℕ) → (j : ℕ) × (j < f .count) × (getD (f .list) j 0 ≡ i) → (j : ℕ) × (j < f .count + 1) × (getD (set (f .list) (f .count) t) j 0 ≡ i)
           moved i x = (x .0, omega (arith, x .1), getD-set-other (f .list) (f .count) (x .0) t 0 (λ q. omega (arith, x .1)) ∙ x .2)
-
-          by : (j : ℕ) → j < f .count + 1 → Dec (j ≡ f .count) → marked (withMark (f .known) t) (getD (set (f .list) (f .count) t) j 0) ≡ true
-          by j below (yes q) = rw (q, here) (marked-same (f .known) t wide)
-          by j below (no ne) =
-              rw (getD-set-other (f .list) (f .count) j t 0 ne) (marked-keeps (f .known) t wide (getD (f .list) j 0) (l .member j (omega arith)))
 
 -- ---- nothing is found
 

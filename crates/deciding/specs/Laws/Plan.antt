@@ -14,7 +14,7 @@ use Rattle.layouts.specs.Drafts.{REQUEST_ROOT, REPLY_ROOT, TICKET_ROOT, AUTHENT
 use Rattle.layouts.specs.Promises.{request-at, reply-at, ticket-at, authenticator-at, confirmation-at, key-at}
 use Rattle.layouts.specs.Promises.{request-fits, issue-fits, authenticator-fits, confirmation-fits, key-fits}
 use Rattle.messages.specs.declared.plan.Plan.{Plan}
-use Rattle.messages.specs.Plan.{Fresh}
+use Rattle.messages.specs.Plan.{emptyPlan}
 use Rattle.sending.specs.declared.Marks.the-variants as marks
 use Rattle.sending.specs.declared.Prepared.{Prepared}
 use Rattle.sending.specs.Promises.{send-once, nothing-planned}
@@ -78,10 +78,10 @@ module _ (ts : List ℕ) (count : ℕ) where
 -- ---- once the roots are known
 
 module _ {ts : List ℕ} {count : ℕ} {x : Sends} (s : CanSend ts count x) where
-  pub none-planned : rootsOf x ≡ Nothing → {p : Plan} → Fresh p → PlanFor ts count (messagesOf x) (record { plan = p; marks = marks.Nothing })
-  none-planned h {p} f =
+  pub none-planned : rootsOf x ≡ Nothing → {p : Plan} → p ≡ emptyPlan → PlanFor ts count (messagesOf x) (record { plan = p; marks = marks.Nothing })
+  none-planned h f =
       let none : messagesOf x ≡ [] = subst (Laid ts count x) h (laid-out ts count x s) in
-      rw none (nothing-planned ts count (s .table .size) (s .table .room) f)
+      rw (f, none) (nothing-planned ts count (s .table .size) (s .table .room))
 
   module _ {first last : ℕ} (h : rootsOf x ≡ At first last) {draft : List Node} (laid : draft ≡ draftOf x) where
     says : Says ts count (messagesOf x) (draftOf x) first last

@@ -1,23 +1,24 @@
 -- `drafts::draft_fits` meets its contract. The invariant: the nodes passed fit. Assumes nothing.
+use borrow.Author.Count.{below-more}
 use borrow.Author.Needs.{needs}
 use borrow.Author.Tests.{not-true, not-false}
 use mathlib.Core.Bool.{true}
-use mathlib.Core.Path.{_≡_, sym, ap, _∙_}
+use mathlib.Core.Path.{_≡_, sym, _∙_}
 use native.Mathlib.Omega.{arith}
-use Prim.Native.Nat.{_≤_, _-_}
+use Prim.Native.Nat.{ℕ, _≤_, _<_, _-_}
 use Rattle.terms.specs.Choice.{is-false, no-true}
-use Rattle.drafts.specs.Draft.{nodesFit, fits-at, fits-none, fits-more, fits-all}
+use Rattle.drafts.specs.Draft.{nodeAt, nodeFits, fits-at, all-fit}
 use Rattle.drafts.proofs.draft_fits.Statement.{statement}
 use Rattle.drafts.proofs.draft_fits.Tie as tie
 
 abbrev Inv-loop : tie.InvT-loop
-Inv-loop n count draft k₀ k = (k ≤ 16) × (nodesFit n count draft k ≡ true)
+Inv-loop n count draft k₀ k = (k ≤ 16) × ((j : ℕ) → j < k → nodeFits n count j (nodeAt draft j) ≡ true)
 
 abbrev μ-loop : tie.MeasureT-loop
 μ-loop n count draft k₀ k = 16 - k
 
 loop-holds : tie.Need-loop-holds Inv-loop μ-loop
-loop-holds c = (search needs, fits-none _ _ _)
+loop-holds c = (search needs, λ j h. absurd (omega arith))
 
 mul-node : tie.Need-mul-node Inv-loop μ-loop
 mul-node c = search needs
@@ -41,16 +42,10 @@ loop-less : tie.Need-loop-less Inv-loop μ-loop
 loop-less c = search needs
 
 loop-again : tie.Need-loop-again Inv-loop μ-loop
-loop-again c =
-    let a = c .before .before .before .before .before .args in
-    let k = c .before .before .before .before .loop .k in
-    (search needs, fits-more (a .n) (a .count) (a .t1) k (c .before .before .before .before .loop .inv .1) (sym (c .before .node-fits .ensures) ∙ not-false _ (c .if1 .left)))
+loop-again c = (search needs, below-more _ _ (c .before .before .before .before .loop .inv .1) (sym (c .before .node-fits .ensures) ∙ not-false _ (c .if1 .left)))
 
 returns-2 : tie.Need-returns-2 Inv-loop μ-loop
-returns-2 c =
-    let a = c .before .before .args in
-    let last : c .before .loop .k ≡ 16 = omega arith in
-    sym (sym (fits-all (a .n) (a .count) (a .t1)) ∙ ap (nodesFit (a .n) (a .count) (a .t1)) (sym last) ∙ c .before .loop .inv .1)
+returns-2 c = let a = c .before .before .args in sym (all-fit (a .n) (a .count) (a .t1) (λ k h. c .before .loop .inv .1 k (omega arith)))
 
 pub draft-fits-spec : {M : Type 1} → statement M
 draft-fits-spec =

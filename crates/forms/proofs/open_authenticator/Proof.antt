@@ -10,15 +10,6 @@ use Rattle.layers.specs.Laws.Ways.{not-atom}
 use Rattle.forms.proofs.open_authenticator.Statement.{statement}
 use Rattle.forms.proofs.open_authenticator.Tie as tie
 
-under-session-key-requires : tie.Need-under-session-key-requires
-under-session-key-requires c κs = search needs
-
-enum-known-k : tie.Need-enum-known-k
-enum-known-k c = search needs
-
-enum-told : tie.Need-enum-told
-enum-told c = search needs
-
 returns : tie.Need-returns
 returns c =
     let last = stops _ _ _ (opens (c .enum-told .given .1) _ _ (c .before .before .under-session-key .ensures)) in
@@ -26,12 +17,6 @@ returns c =
 
 principal-first-requires : tie.Need-principal-first-requires
 principal-first-requires c κs = opens (c .before .k .given .1) _ _ (c .before .before .before .under-session-key .ensures) .1
-
-enum-known-a : tie.Need-enum-known-a
-enum-known-a c = search needs
-
-enum-told-2 : tie.Need-enum-told-2
-enum-told-2 c = search needs
 
 returns-2 : tie.Need-returns-2
 returns-2 c =
@@ -42,9 +27,6 @@ returns-2 c =
 
 term-at-requires : tie.Need-term-at-requires
 term-at-requires c κs = opens (c .before .a .given .1) _ _ (c .before .before .before .principal-first .ensures) .1
-
-enum-known-ta : tie.Need-enum-known-ta
-enum-known-ta c = search needs
 
 returns-3 : tie.Need-returns-3
 returns-3 c =
@@ -68,15 +50,15 @@ pub open-authenticator-spec : {M : Type 1} → statement M
 open-authenticator-spec =
     tie.close
     (tie.spec
-    under-session-key-requires
-    enum-known-k
-    enum-told
+    (λ c κs. search needs)
+    (λ c. search needs)
+    (λ c. search needs)
     returns
     principal-first-requires
-    enum-known-a
-    enum-told-2
+    (λ c. search needs)
+    (λ c. search needs)
     returns-2
     term-at-requires
-    enum-known-ta
+    (λ c. search needs)
     returns-3
     returns-4)

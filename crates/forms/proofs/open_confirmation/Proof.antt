@@ -10,15 +10,6 @@ use Rattle.layers.specs.Laws.Ways.{not-atom}
 use Rattle.forms.proofs.open_confirmation.Statement.{statement}
 use Rattle.forms.proofs.open_confirmation.Tie as tie
 
-under-session-key-requires : tie.Need-under-session-key-requires
-under-session-key-requires c κs = search needs
-
-enum-known-k : tie.Need-enum-known-k
-enum-known-k c = search needs
-
-enum-told : tie.Need-enum-told
-enum-told c = search needs
-
 returns : tie.Need-returns
 returns c =
     let last = stops _ _ _ (opens (c .enum-told .given .1) _ _ (c .before .before .under-session-key .ensures)) in
@@ -26,9 +17,6 @@ returns c =
 
 term-at-requires : tie.Need-term-at-requires
 term-at-requires c κs = opens (c .before .k .given .1) _ _ (c .before .before .before .under-session-key .ensures) .1
-
-enum-known-ta : tie.Need-enum-known-ta
-enum-known-ta c = search needs
 
 returns-2 : tie.Need-returns-2
 returns-2 c =
@@ -48,11 +36,11 @@ pub open-confirmation-spec : {M : Type 1} → statement M
 open-confirmation-spec =
     tie.close
     (tie.spec
-    under-session-key-requires
-    enum-known-k
-    enum-told
+    (λ c κs. search needs)
+    (λ c. search needs)
+    (λ c. search needs)
     returns
     term-at-requires
-    enum-known-ta
+    (λ c. search needs)
     returns-2
     returns-3)

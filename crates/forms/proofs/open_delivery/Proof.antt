@@ -8,12 +8,6 @@ use Rattle.layers.specs.Laws.Ways.{not-pair}
 use Rattle.forms.proofs.open_delivery.Statement.{statement}
 use Rattle.forms.proofs.open_delivery.Tie as tie
 
-term-at-requires : tie.Need-term-at-requires
-term-at-requires c κs = search needs
-
-enum-known-l : tie.Need-enum-known-l
-enum-known-l c = search needs
-
 returns : tie.Need-returns
 returns c = delivery-no-pair _ (not-pair (c .before .before .before .pre) (c .before .term-at .ensures) (c .match .keys2))
 
@@ -21,12 +15,6 @@ open-ticket-requires : tie.Need-open-ticket-requires
 open-ticket-requires c κs =
     let t₁ = c .before .before .before in
     pair-operands (t₁ .before .before .pre) (sym (c .before .l .given .1) ∙ t₁ .term-at .ensures) .0
-
-enum-known-k : tie.Need-enum-known-k
-enum-known-k c = search needs
-
-enum-told : tie.Need-enum-told
-enum-told c = search needs
 
 returns-2 : tie.Need-returns-2
 returns-2 c =
@@ -40,12 +28,6 @@ open-authenticator-requires c κs =
     let l₁ = c .before .before .before .before in
     let t₁ = l₁ .before .before .before in
     pair-operands (t₁ .before .before .pre) (sym (l₁ .before .l .given .1) ∙ t₁ .term-at .ensures) .1
-
-enum-known-sender : tie.Need-enum-known-sender
-enum-known-sender c = search needs
-
-enum-told-2 : tie.Need-enum-told-2
-enum-told-2 c = search needs
 
 returns-3 : tie.Need-returns-3
 returns-3 c =
@@ -95,16 +77,16 @@ pub open-delivery-spec : {M : Type 1} → statement M
 open-delivery-spec =
     tie.close
     (tie.spec
-    term-at-requires
-    enum-known-l
+    (λ c κs. search needs)
+    (λ c. search needs)
     returns
     open-ticket-requires
-    enum-known-k
-    enum-told
+    (λ c. search needs)
+    (λ c. search needs)
     returns-2
     open-authenticator-requires
-    enum-known-sender
-    enum-told-2
+    (λ c. search needs)
+    (λ c. search needs)
     returns-3
     returns-4
     returns-5

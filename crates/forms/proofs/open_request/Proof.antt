@@ -10,15 +10,6 @@ use Rattle.layers.specs.Laws.Ways.{not-atom}
 use Rattle.forms.proofs.open_request.Statement.{statement}
 use Rattle.forms.proofs.open_request.Tie as tie
 
-principal-first-requires : tie.Need-principal-first-requires
-principal-first-requires c κs = search needs
-
-enum-known-a : tie.Need-enum-known-a
-enum-known-a c = search needs
-
-enum-told : tie.Need-enum-told
-enum-told c = search needs
-
 returns : tie.Need-returns
 returns c =
     let last = stops _ _ _ (opens (c .enum-told .given .1) _ _ (c .before .before .principal-first .ensures)) in
@@ -26,12 +17,6 @@ returns c =
 
 principal-first-requires-2 : tie.Need-principal-first-requires-2
 principal-first-requires-2 c κs = opens (c .before .a .given .1) _ _ (c .before .before .before .principal-first .ensures) .1
-
-enum-known-b : tie.Need-enum-known-b
-enum-known-b c = search needs
-
-enum-told-2 : tie.Need-enum-told-2
-enum-told-2 c = search needs
 
 returns-2 : tie.Need-returns-2
 returns-2 c =
@@ -42,9 +27,6 @@ returns-2 c =
 
 term-at-requires : tie.Need-term-at-requires
 term-at-requires c κs = opens (c .before .b .given .1) _ _ (c .before .before .before .principal-first2 .ensures) .1
-
-enum-known-n : tie.Need-enum-known-n
-enum-known-n c = search needs
 
 returns-3 : tie.Need-returns-3
 returns-3 c =
@@ -68,15 +50,15 @@ pub open-request-spec : {M : Type 1} → statement M
 open-request-spec =
     tie.close
     (tie.spec
-    principal-first-requires
-    enum-known-a
-    enum-told
+    (λ c κs. search needs)
+    (λ c. search needs)
+    (λ c. search needs)
     returns
     principal-first-requires-2
-    enum-known-b
-    enum-told-2
+    (λ c. search needs)
+    (λ c. search needs)
     returns-2
     term-at-requires
-    enum-known-n
+    (λ c. search needs)
     returns-3
     returns-4)

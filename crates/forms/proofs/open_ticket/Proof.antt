@@ -10,15 +10,6 @@ use Rattle.layers.specs.Laws.Ways.{not-atom}
 use Rattle.forms.proofs.open_ticket.Statement.{statement}
 use Rattle.forms.proofs.open_ticket.Tie as tie
 
-under-long-term-key-requires : tie.Need-under-long-term-key-requires
-under-long-term-key-requires c κs = search needs
-
-enum-known-b : tie.Need-enum-known-b
-enum-known-b c = search needs
-
-enum-told : tie.Need-enum-told
-enum-told c = search needs
-
 returns : tie.Need-returns
 returns c =
     let last = stops _ _ _ (opens (c .enum-told .given .1) _ _ (c .before .before .under-long-term-key .ensures)) in
@@ -26,12 +17,6 @@ returns c =
 
 session-key-first-requires : tie.Need-session-key-first-requires
 session-key-first-requires c κs = opens (c .before .b .given .1) _ _ (c .before .before .before .under-long-term-key .ensures) .1
-
-enum-known-k : tie.Need-enum-known-k
-enum-known-k c = search needs
-
-enum-told-2 : tie.Need-enum-told-2
-enum-told-2 c = search needs
 
 returns-2 : tie.Need-returns-2
 returns-2 c =
@@ -42,12 +27,6 @@ returns-2 c =
 
 principal-first-requires : tie.Need-principal-first-requires
 principal-first-requires c κs = opens (c .before .k .given .1) _ _ (c .before .before .before .session-key-first .ensures) .1
-
-enum-known-a : tie.Need-enum-known-a
-enum-known-a c = search needs
-
-enum-told-3 : tie.Need-enum-told-3
-enum-told-3 c = search needs
 
 returns-3 : tie.Need-returns-3
 returns-3 c =
@@ -60,9 +39,6 @@ returns-3 c =
 
 term-at-requires : tie.Need-term-at-requires
 term-at-requires c κs = opens (c .before .a .given .1) _ _ (c .before .before .before .principal-first .ensures) .1
-
-enum-known-ts : tie.Need-enum-known-ts
-enum-known-ts c = search needs
 
 returns-4 : tie.Need-returns-4
 returns-4 c =
@@ -90,19 +66,19 @@ pub open-ticket-spec : {M : Type 1} → statement M
 open-ticket-spec =
     tie.close
     (tie.spec
-    under-long-term-key-requires
-    enum-known-b
-    enum-told
+    (λ c κs. search needs)
+    (λ c. search needs)
+    (λ c. search needs)
     returns
     session-key-first-requires
-    enum-known-k
-    enum-told-2
+    (λ c. search needs)
+    (λ c. search needs)
     returns-2
     principal-first-requires
-    enum-known-a
-    enum-told-3
+    (λ c. search needs)
+    (λ c. search needs)
     returns-3
     term-at-requires
-    enum-known-ts
+    (λ c. search needs)
     returns-4
     returns-5)

@@ -1,7 +1,7 @@
 -- A message is read as a form with these values exactly if it is the exchange's message of that name with these values
 -- (`ticket-form` and so on). Then, by cases, what the code answers (`ticket-read` and so on).
 -- Assumes nothing.
-use mathlib.Core.Bool.{Bool, true, false, _&&_, cond}
+use mathlib.Core.Bool.{_&&_, and-eq-true-iff}
 use mathlib.Core.Logic.{_↔_}
 use mathlib.Core.Option.{Option, none, some}
 use mathlib.Core.Path.{_≡_, refl, sym, ap, ap₂, _∙_}
@@ -10,12 +10,12 @@ use native.Mathlib.Omega.{arith}
 use borrow.Author.Tests.{eqb-true, eq-eqb, ne-eqb}
 use lib.Dec.{eqb}
 use Rattle.kerberos.specs.Messages.{ticket, authenticator}
+use Rattle.terms.specs.Choice.{cond-first}
 use Rattle.terms.specs.Message.{Message, pair}
 use Rattle.layers.specs.Layers.{TIME, PAIR, ofKind, operands}
 use Rattle.layers.specs.Laws.Layers.{given-back, of-kind, kind-is, pair-back, reads-atom, reads-▸, principal-first, key-first, under-key, under-session, exactly}
 use Rattle.forms.specs.declared.Authenticator.{Authenticator}
 use Rattle.forms.specs.declared.Authenticator.the-variants as authenticators
-use Rattle.forms.specs.declared.Delivery.{Delivery}
 use Rattle.forms.specs.declared.Delivery.the-variants as deliveries
 use Rattle.forms.specs.declared.Ticket.{Ticket}
 use Rattle.forms.specs.declared.Ticket.the-variants as tickets
@@ -53,11 +53,6 @@ authenticator-read m e = sym (ap authenticatorOf e)
 
 -- ---- "the pair of {K, a, Ts} under b's key and {a, Ta}K"
 
-both-picked : (c d : Bool) (x y : Delivery) → (deliveries.Other ≡ y → ⊥) → cond (c && d) x deliveries.Other ≡ y → (c ≡ true) × (d ≡ true) × (x ≡ y)
-both-picked true true x y h e = (refl, refl, e)
-both-picked true false x y h e = absurd (h e)
-both-picked false d x y h e = absurd (h e)
-
 not-is : {k a ts b ta : ℕ} → deliveries.Other ≡ deliveries.Is k a ts b ta → ⊥
 not-is e = let z : _≡_ {A = ℕ} 0 1 = cc in omega arith
 
@@ -66,10 +61,11 @@ delivery-inv : (k a ts b ta : ℕ) (x : Ticket) (y : Authenticator) → delivery
 delivery-inv k a ts b ta tickets.Other y e = absurd (not-is e)
 delivery-inv k a ts b ta (tickets.Is k′ a′ ts′ b′) authenticators.Other e = absurd (not-is e)
 delivery-inv k a ts b ta (tickets.Is k′ a′ ts′ b′) (authenticators.Is a″ ta′ k″) e =
-    let p = both-picked (eqb a″ a′) (eqb k″ k′) (deliveries.Is k′ a′ ts′ b′ ta′) (deliveries.Is k a ts b ta) not-is e in
-    let q : a″ ≡ a′ = eqb-true a″ a′ (p .0) in
-    let r : k″ ≡ k′ = eqb-true k″ k′ (p .1) in
-    let s : deliveries.Is k′ a′ ts′ b′ ta′ ≡ deliveries.Is k a ts b ta = p .2 in
+    let p = cond-first (eqb a″ a′ && eqb k″ k′) not-is e in
+    let t = and-eq-true-iff (eqb a″ a′) (eqb k″ k′) .0 (p .0) in
+    let q : a″ ≡ a′ = eqb-true a″ a′ (t .0) in
+    let r : k″ ≡ k′ = eqb-true k″ k′ (t .1) in
+    let s : deliveries.Is k′ a′ ts′ b′ ta′ ≡ deliveries.Is k a ts b ta = p .1 in
     ((cc), (cc))
 
 delivery-back : (m : Message) (k a ts b ta : ℕ) → deliveryIn m ≡ deliveries.Is k a ts b ta → m ≡ pair (ticket k a ts b) (authenticator a ta k)

@@ -8,12 +8,6 @@ use Rattle.layers.specs.Laws.Ways.{not-first, first-not, first-is}
 use Rattle.layers.proofs.principal_first.Statement.{statement}
 use Rattle.layers.proofs.principal_first.Tie as tie
 
-term-at-requires : tie.Need-term-at-requires
-term-at-requires c κs = search needs
-
-enum-known-l : tie.Need-enum-known-l
-enum-known-l c = search needs
-
 returns : tie.Need-returns
 returns c = not-first (c .before .before .before .pre) (c .before .term-at .ensures) PRINCIPAL (c .match .keys2)
 
@@ -21,9 +15,6 @@ term-at-requires-2 : tie.Need-term-at-requires-2
 term-at-requires-2 c κs =
     let l₁ = c .before .before .before in
     pair-operands (l₁ .before .before .pre) (sym (c .before .l .given .1) ∙ l₁ .term-at .ensures) .0
-
-enum-known-p : tie.Need-enum-known-p
-enum-known-p c = search needs
 
 returns-2 : tie.Need-returns-2
 returns-2 c =
@@ -42,10 +33,10 @@ pub principal-first-spec : {M : Type 1} → statement M
 principal-first-spec =
     tie.close
     (tie.spec
-    term-at-requires
-    enum-known-l
+    (λ c κs. search needs)
+    (λ c. search needs)
     returns
     term-at-requires-2
-    enum-known-p
+    (λ c. search needs)
     returns-2
     returns-3)

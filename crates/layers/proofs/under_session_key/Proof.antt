@@ -8,12 +8,6 @@ use Rattle.layers.specs.Laws.Ways.{not-under, under-not, under-is}
 use Rattle.layers.proofs.under_session_key.Statement.{statement}
 use Rattle.layers.proofs.under_session_key.Tie as tie
 
-term-at-requires : tie.Need-term-at-requires
-term-at-requires c κs = search needs
-
-enum-known-body : tie.Need-enum-known-body
-enum-known-body c = search needs
-
 returns : tie.Need-returns
 returns c = not-under (c .before .before .before .pre) (c .before .term-at .ensures) SESSION_KEY (c .match .keys2)
 
@@ -21,9 +15,6 @@ term-at-requires-2 : tie.Need-term-at-requires-2
 term-at-requires-2 c κs =
     let l₁ = c .before .before .before in
     encrypted-operands (l₁ .before .before .pre) (sym (c .before .body .given .1) ∙ l₁ .term-at .ensures) .1
-
-enum-known-k : tie.Need-enum-known-k
-enum-known-k c = search needs
 
 returns-2 : tie.Need-returns-2
 returns-2 c =
@@ -42,10 +33,10 @@ pub under-session-key-spec : {M : Type 1} → statement M
 under-session-key-spec =
     tie.close
     (tie.spec
-    term-at-requires
-    enum-known-body
+    (λ c κs. search needs)
+    (λ c. search needs)
     returns
     term-at-requires-2
-    enum-known-k
+    (λ c. search needs)
     returns-2
     returns-3)

@@ -1,7 +1,6 @@
 -- Laws of the layers. `Reads` and `Layer` say exactly which messages a form and a layer have; `stops`, `rest-stops` and
 -- `goes` are the ways out of a chain.
 -- Assumes nothing.
-use mathlib.Core.Bool.{Bool, true, false, cond}
 use mathlib.Core.Logic.{_↔_}
 use mathlib.Core.Option.{Option, none, some}
 use mathlib.Core.Path.{_≡_, refl, sym, ap, ap₂, _∙_}
@@ -10,11 +9,15 @@ use native.Mathlib.Omega.{arith}
 use borrow.Author.Tests.{eqb-true, eq-eqb, ne-eqb}
 use lib.Dec.{eqb}
 use Rattle.traces.specs.Terms.{given}
+use Rattle.terms.specs.Choice.{cond-first}
 use Rattle.terms.specs.Meaning.{keyOf}
 use Rattle.terms.specs.Message.{longTerm, session, Message, principal, time, nonce, key, pair, encrypted}
 use Rattle.layers.specs.Layers.{PRINCIPAL, TIME, LONG_TERM_KEY, SESSION_KEY, PAIR, ENCRYPTED, kind, number, operands, ofKind, atom, layer, first, under, after, _▸_}
 
 -- ---- what is of a kind
+
+not-some : {A : Type 0} {x : A} → none ≡ some x → ⊥
+not-some e = let z : _≡_ {A = ℕ} 0 1 = cc in omega arith
 
 module _ {A : Type 0} (f : Message → A) where
   pub of-kind : (k : ℕ) (m : Message) → kind m ≡ k → ofKind k f m ≡ some (f m)
@@ -25,15 +28,12 @@ module _ {A : Type 0} (f : Message → A) where
   unfolding ofKind
   of-other k m h = rw (ne-eqb (kind m) k h)
 
-  picked : (b : Bool) (x y : A) → cond b (some x) none ≡ some y → (b ≡ true) × (x ≡ y)
-  picked true x y e = (refl, (cc))
-  picked false x y e = ((cc), (cc))
-
   pub kind-is : (k : ℕ) (m : Message) (x : A) → ofKind k f m ≡ some x → (kind m ≡ k) × (f m ≡ x)
   unfolding ofKind
   kind-is k m x e =
-      let p = picked (eqb (kind m) k) (f m) x e in
-      (eqb-true (kind m) k (p .0), p .1)
+      let p = cond-first (eqb (kind m) k) not-some e in
+      let q = p .1 in
+      (eqb-true (kind m) k (p .0), (cc))
 
 -- ---- the message of a kind and a number, or of operands
 
@@ -112,9 +112,6 @@ pub record Layer (l : Message → Option (ℕ × Message)) (make : ℕ → Messa
 pub given-back : {A B : Type 0} (o : Option A) (d : B) (f : A → B) (y : B) → (d ≡ y → ⊥) → given o d f ≡ y → (x : A) × (o ≡ some x) × (f x ≡ y)
 given-back none d f y h e = absurd (h e)
 given-back (some x) d f y h e = (x, refl, e)
-
-not-some : {A : Type 0} {x : A} → none ≡ some x → ⊥
-not-some e = let z : _≡_ {A = ℕ} 0 1 = cc in omega arith
 
 both-same : {A B : Type 0} {a c : A} {b d : B} → _≡_ {A = Option (A × B)} (some (a, b)) (some (c, d)) → (a ≡ c) × (b ≡ d)
 both-same {A} {B} {a} {c} {b} {d} e =

@@ -8,20 +8,11 @@ use borrow.Author.Needs.{needs}
 use Rattle.sending.proofs.plan_messages.Statement.{statement}
 use Rattle.sending.proofs.plan_messages.Tie as tie
 
-numbers : (c : tie.After-fresh) → length (c .fresh .result .numbers) ≡ 16
-numbers c = search needs
-
 words : (c : tie.After-plan) → length (c .before .plan-node2 .result .plan .words) ≡ 32
 words c = search needs
 
-fresh-requires : tie.Need-fresh-requires
-fresh-requires c κs = search needs
-
 plan-node-requires : tie.Need-plan-node-requires
-plan-node-requires c κs = let s = c .before .before in (ready (s .pre) (c .fresh .ensures) (numbers c), s .pre .first-node)
-
-plan-node-requires-2 : tie.Need-plan-node-requires-2
-plan-node-requires-2 c κs = search needs
+plan-node-requires c κs = let s = c .before .before in (ready (s .pre) (c .fresh .ensures), s .pre .first-node)
 
 returns : tie.Need-returns
 returns c =
@@ -30,4 +21,4 @@ returns c =
 
 pub plan-messages-spec : {M : Type 1} → statement M
 plan-messages-spec =
-    tie.close (tie.spec fresh-requires plan-node-requires plan-node-requires-2 returns)
+    tie.close (tie.spec (λ c κs. search needs) plan-node-requires (λ c κs. search needs) returns)

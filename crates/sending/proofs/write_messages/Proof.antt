@@ -7,40 +7,16 @@ use borrow.Author.Needs.{needs}
 use Rattle.sending.proofs.write_messages.Statement.{statement}
 use Rattle.sending.proofs.write_messages.Tie as tie
 
-write-plan-requires : tie.Need-write-plan-requires
-write-plan-requires c κs = search needs
-
-enum-known-marks : tie.Need-enum-known-marks
-enum-known-marks c = search needs
-
-cast-mark : tie.Need-cast-mark
-cast-mark c = search needs
-
 mark-requires : tie.Need-mark-requires
 mark-requires c κs = let s = c .before .before .before .before .before .before .before .before .before .before .before in (s .pre .1, two-fit (c .before .before .marks .given .1) (s .pre .4) .0)
-
-cast-mark-2 : tie.Need-cast-mark-2
-cast-mark-2 c = search needs
 
 mark-requires-2 : tie.Need-mark-requires-2
 mark-requires-2 c κs =
     let s = c .before .before .before .before .before .before .before .before .before .before .before .before .before .before .before in
     (ap length (c .before .before .before .mark .ensures) ∙ with-length (s .args .wire .now) _ ∙ s .pre .1, two-fit (c .before .before .before .before .before .before .marks .given .1) (s .pre .4) .1)
 
-enum-told : tie.Need-enum-told
-enum-told c = search needs
-
-same-length : tie.Need-same-length
-same-length c = search needs
-
-same-length-2 : tie.Need-same-length-2
-same-length-2 c = search needs
-
 returns : tie.Need-returns
 returns c = (c .before .before .before .before .before .before .before .before .before .before .before .before .before .write-plan .ensures, two-marked (c .before .before .before .before .before .before .before .before .before .marks .given .1) (c .before .before .before .before .before .before .before .before .before .before .before .before .before .before .before .before .before .before .args .wire .now) (c .before .before .before .before .before .before .mark .ensures) (c .before .before .mark2 .ensures))
-
-same-length-3 : tie.Need-same-length-3
-same-length-3 c = search needs
 
 returns-2 : tie.Need-returns-2
 returns-2 c = (c .before .before .before .before .write-plan .ensures, none-marked (c .enum-told .given .1) _)
@@ -49,15 +25,15 @@ pub write-messages-spec : {M : Type 1} → statement M
 write-messages-spec =
     tie.close
     (tie.spec
-    write-plan-requires
-    enum-known-marks
-    cast-mark
+    (λ c κs. search needs)
+    (λ c. search needs)
+    (λ c. search needs)
     mark-requires
-    cast-mark-2
+    (λ c. search needs)
     mark-requires-2
-    enum-told
-    same-length
-    same-length-2
+    (λ c. search needs)
+    (λ c. search needs)
+    (λ c. search needs)
     returns
-    same-length-3
+    (λ c. search needs)
     returns-2)

@@ -1,6 +1,7 @@
 -- `analysis::saturate::decrypt_under` meets its contract. The invariant: the walk along the chain has come to e. Assumes nothing.
 use borrow.Author.Needs.{needs}
 use mathlib.Core.Path.{sym, ap, _∙_, subst}
+use Prim.Native.Nat.{_<_}
 use native.Mathlib.Omega.{arith}
 use lib.ListN.{getD}
 use Rattle.terms.specs.Meaning.{Under}
@@ -17,8 +18,9 @@ Inv-loop terms count chains set₀ list₀ found k total₀ e₀ set list total 
 abbrev μ-loop : tie.MeasureT-loop
 μ-loop terms count chains set₀ list₀ found k total₀ e₀ set list total e = e
 
-mul-e : tie.Need-mul-e Inv-loop μ-loop
-mul-e c = search needs
+-- e is a term of the table
+low : (c : tie.At-loop Inv-loop μ-loop) → c .loop .e < 512
+low c = let s = c .before .before .before .before .before .before in along-low (s .pre .0) (s .args .k) (c .loop .inv)
 
 shared-slice-read-e : tie.Need-shared-slice-read-e Inv-loop μ-loop
 shared-slice-read-e c =
@@ -36,17 +38,12 @@ loop-holds c =
     along-start (s .pre .0) (s .args .k) (s .pre .2) (s .pre .3) (s .pre .1)
 
 mul-decode : tie.Need-mul-decode Inv-loop μ-loop
-mul-decode c =
-    let s = c .before .before .before .before .before .before .before .before .before in
-    search (needs, along-low (s .pre .0) (s .args .k) (c .before .before .before .loop .inv))
+mul-decode c = search (needs, low (c .before .before .before))
 
 shared-slice-read-decode : tie.Need-shared-slice-read-decode Inv-loop μ-loop
 shared-slice-read-decode c =
     let s = c .before .before .before .before .before .before .before .before .before .before in
-    omega (arith, along-low (s .pre .0) (s .args .k) (c .before .before .before .before .loop .inv), s .pre .0 .table .valid .size)
-
-decode-requires : tie.Need-decode-requires Inv-loop μ-loop
-decode-requires c κs = search needs
+    omega (arith, low (c .before .before .before .before), s .pre .0 .table .valid .size)
 
 decrypt-requires : tie.Need-decrypt-requires Inv-loop μ-loop
 decrypt-requires c κs =
@@ -56,14 +53,12 @@ decrypt-requires c κs =
     (at .inv .room, along-low (s .pre .0) (s .args .k) (at .inv), subst (Under 512) (sym (c .decode .ensures)) u)
 
 mul-e-2 : tie.Need-mul-e-2 Inv-loop μ-loop
-mul-e-2 c =
-    let s = c .before .before .before .before .before .before .before .before .before .before .before .before .before .before .before .before in
-    search (needs, along-low (s .pre .0) (s .args .k) (c .before .before .before .before .before .before .before .before .before .before .loop .inv))
+mul-e-2 c = search (needs, low (c .before .before .before .before .before .before .before .before .before .before))
 
 shared-slice-read-e-2 : tie.Need-shared-slice-read-e-2 Inv-loop μ-loop
 shared-slice-read-e-2 c =
     let s = c .before .before .before .before .before .before .before .before .before .before .before .before .before .before .before .before .before in
-    omega (arith, along-low (s .pre .0) (s .args .k) (c .before .before .before .before .before .before .before .before .before .before .before .loop .inv), s .pre .0 .chains .places)
+    omega (arith, low (c .before .before .before .before .before .before .before .before .before .before .before), s .pre .0 .chains .places)
 
 -- the walk goes on to the next encryption of the chain
 next : (c : tie.After-shared-slice-known5 Inv-loop μ-loop)
@@ -108,13 +103,13 @@ decrypt-under-spec =
     (tie.spec
     Inv-loop
     μ-loop
-    mul-e
+    (λ c. search needs)
     shared-slice-read-e
     cast-e
     loop-holds
     mul-decode
     shared-slice-read-decode
-    decode-requires
+    (λ c κs. search needs)
     decrypt-requires
     mul-e-2
     shared-slice-read-e-2

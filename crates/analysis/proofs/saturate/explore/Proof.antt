@@ -1,7 +1,7 @@
 -- `analysis::saturate::explore` meets its contract. The invariant: `done` terms of the list have been looked at. Assumes nothing.
 use borrow.Author.Needs.{needs}
 use mathlib.Core.Path.{sym, _∙_}
-use Prim.Native.Nat.{_-_, _<_}
+use Prim.Native.Nat.{_-_, _<_, _≤_}
 use native.Mathlib.Omega.{arith}
 use lib.ListN.{getD}
 use Rattle.worklist.specs.Found.{asFound}
@@ -15,24 +15,25 @@ Inv-loop terms count who chains set₀ list₀ found total₀ done₀ set list t
 abbrev μ-loop : tie.MeasureT-loop
 μ-loop terms count who chains set₀ list₀ found total₀ done₀ set list total done = 512 - done
 
+-- ---- what is known at the head of the loop
+
+most : (c : tie.At-loop Inv-loop μ-loop) → c .loop .total ≤ 512
+most c =
+    let s = c .before .before .before .before .before in
+    explore-most (s .args .who .flags) (s .pre .0) (asFound (c .loop .set) (c .loop .list) (c .loop .total)) (c .loop .done) (c .loop .inv)
+
+-- ---- the needs
+
 loop-holds : tie.Need-loop-holds Inv-loop μ-loop
 loop-holds c =
     let s = c .before .before .before .before in
     explore-start (s .args .who .flags) (s .pre .0) (asFound (s .args .set .now) (s .args .list .now) (s .args .found)) (s .pre .2)
 
 mul-i : tie.Need-mul-i Inv-loop μ-loop
-mul-i c =
-    let s = c .before .before .before .before .before .before in
-    let at = c .before .loop in
-    let most = explore-most (s .args .who .flags) (s .pre .0) (asFound (at .set) (at .list) (at .total)) (at .done) (at .inv) in
-    search (needs, most)
+mul-i c = search (needs, most (c .before))
 
 slice-read-i : tie.Need-slice-read-i Inv-loop μ-loop
-slice-read-i c =
-    let s = c .before .before .before .before .before .before .before in
-    let at = c .before .before .loop in
-    let most = explore-most (s .args .who .flags) (s .pre .0) (asFound (at .set) (at .list) (at .total)) (at .done) (at .inv) in
-    omega (arith, most, at .inv .work .listed .room .places)
+slice-read-i c = omega (arith, most (c .before .before), c .before .before .loop .inv .work .listed .room .places)
 
 cast-i : tie.Need-cast-i Inv-loop μ-loop
 cast-i c =
@@ -52,18 +53,10 @@ visit-requires c κs =
     )
 
 add-done : tie.Need-add-done Inv-loop μ-loop
-add-done c =
-    let s = c .before .before .before .before .before .before .before .before .before .before .before .before .before .before in
-    let at = c .before .before .before .before .before .before .before .before .before .loop in
-    let most = explore-most (s .args .who .flags) (s .pre .0) (asFound (at .set) (at .list) (at .total)) (at .done) (at .inv) in
-    search (needs, most)
+add-done c = search (needs, most (c .before .before .before .before .before .before .before .before .before))
 
 loop-less : tie.Need-loop-less Inv-loop μ-loop
-loop-less c =
-    let s = c .before .before .before .before .before .before .before .before .before .before .before .before .before .before in
-    let at = c .before .before .before .before .before .before .before .before .before .loop in
-    let most = explore-most (s .args .who .flags) (s .pre .0) (asFound (at .set) (at .list) (at .total)) (at .done) (at .inv) in
-    omega (arith, most)
+loop-less c = omega (arith, most (c .before .before .before .before .before .before .before .before .before))
 
 loop-again : tie.Need-loop-again Inv-loop μ-loop
 loop-again c =

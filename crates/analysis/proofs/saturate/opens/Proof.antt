@@ -5,23 +5,8 @@ use borrow.Author.Needs.{needs}
 use Rattle.analysis.proofs.saturate.opens.Statement.{statement}
 use Rattle.analysis.proofs.saturate.opens.Tie as tie
 
-is-marked-requires : tie.Need-is-marked-requires
-is-marked-requires c κs = search needs
-
 returns : tie.Need-returns
 returns c = simp (sym (c .before .is-marked .ensures) ∙ c .if1 .taken)
-
-mul-decode : tie.Need-mul-decode
-mul-decode c = search needs
-
-shared-slice-read-decode : tie.Need-shared-slice-read-decode
-shared-slice-read-decode c = search needs
-
-decode-requires : tie.Need-decode-requires
-decode-requires c κs = search needs
-
-is-public-requires : tie.Need-is-public-requires
-is-public-requires c κs = search needs
 
 returns-2 : tie.Need-returns-2
 returns-2 c =
@@ -32,10 +17,10 @@ pub opens-spec : {M : Type 1} → statement M
 opens-spec =
     tie.close
     (tie.spec
-    is-marked-requires
+    (λ c κs. search needs)
     returns
-    mul-decode
-    shared-slice-read-decode
-    decode-requires
-    is-public-requires
+    (λ c. search needs)
+    (λ c. search needs)
+    (λ c κs. search needs)
+    (λ c κs. search needs)
     returns-2)

@@ -13,29 +13,8 @@ use Rattle.analysis.specs.Explore.{blank-listed, start-listed, saturated
 use Rattle.analysis.proofs.saturate.saturate.Statement.{statement}
 use Rattle.analysis.proofs.saturate.saturate.Tie as tie
 
-slice-aggregate-chain : tie.Need-slice-aggregate-chain
-slice-aggregate-chain c = search needs
-
-chain-requires : tie.Need-chain-requires
-chain-requires c κs = search needs
-
-slice-aggregate-start : tie.Need-slice-aggregate-start
-slice-aggregate-start c = search needs
-
-slice-aggregate-start-2 : tie.Need-slice-aggregate-start-2
-slice-aggregate-start-2 c = search needs
-
 start-requires : tie.Need-start-requires
 start-requires c κs = let s = c .before .before .before .before .before .before .before in (s .pre .1, s .pre .0 .room, blank-listed 0 .room)
-
-slice-aggregate-explore : tie.Need-slice-aggregate-explore
-slice-aggregate-explore c = search needs
-
-slice-aggregate-explore-2 : tie.Need-slice-aggregate-explore-2
-slice-aggregate-explore-2 c = search needs
-
-slice-aggregate-explore-3 : tie.Need-slice-aggregate-explore-3
-slice-aggregate-explore-3 c = search needs
 
 explore-requires : tie.Need-explore-requires
 explore-requires c κs =
@@ -58,13 +37,13 @@ pub saturate-spec : {M : Type 1} → statement M
 saturate-spec =
     tie.close
     (tie.spec
-    slice-aggregate-chain
-    chain-requires
-    slice-aggregate-start
-    slice-aggregate-start-2
+    (λ c. search needs)
+    (λ c κs. search needs)
+    (λ c. search needs)
+    (λ c. search needs)
     start-requires
-    slice-aggregate-explore
-    slice-aggregate-explore-2
-    slice-aggregate-explore-3
+    (λ c. search needs)
+    (λ c. search needs)
+    (λ c. search needs)
     explore-requires
     returns)

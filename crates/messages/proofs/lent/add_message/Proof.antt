@@ -24,9 +24,6 @@ inside c = omega arith
 fitting : (c : tie.Else3) → let a = c .before .before .before .before .before .before .before .args in draftFits (a .n) (a .count) (a .draft) ≡ true
 fitting c = sym (c .before .draft-fits .ensures) ∙ not-false _ (c .if3 .left)
 
-numbers : (c : tie.After-fresh) → length (c .fresh .result .numbers) ≡ 16
-numbers c = search needs
-
 words : (c : tie.After-struct-known) → length (c .before .before .plan-node .result .plan .words) ≡ 32
 words c = search needs
 
@@ -35,39 +32,21 @@ planned c = omega (arith, words c, few (c .before .before .plan-node .ensures .a
 
 -- ---- the needs
 
-holds-together-requires : tie.Need-holds-together-requires
-holds-together-requires c κs = search needs
-
-same-length : tie.Need-same-length
-same-length c = search needs
-
 returns : tie.Need-returns
 returns c = let a = c .before .before .before .before .args in (bad-tables (a .n) (a .terms .now) (a .count) (a .draft) (a .root) (sym (c .before .holds-together .ensures) ∙ not-true _ (c .if1 .taken)))
 
-same-length-2 : tie.Need-same-length-2
-same-length-2 c = search needs
-
 returns-2 : tie.Need-returns-2
 returns-2 c = let a = c .before .before .before .before .before .args in (bad-root (a .n) (a .terms .now) (a .count) (a .draft) (a .root) (held (c .before)) (omega arith))
-
-draft-fits-requires : tie.Need-draft-fits-requires
-draft-fits-requires c κs = search needs
-
-same-length-3 : tie.Need-same-length-3
-same-length-3 c = search needs
 
 returns-3 : tie.Need-returns-3
 returns-3 c =
     let a = c .before .before .before .before .before .before .before .args in
     (bad-draft (a .n) (a .terms .now) (a .count) (a .draft) (a .root) (held (c .before .before .before)) (inside (c .before .before)) (sym (c .before .draft-fits .ensures) ∙ not-true _ (c .if3 .taken)))
 
-fresh-requires : tie.Need-fresh-requires
-fresh-requires c κs = search needs
-
 plan-node-requires : tie.Need-plan-node-requires
 plan-node-requires c κs =
     let e = c .before .before in
-    (start-ready (omega arith) (held (e .before .before .before)) (fitting e) (c .fresh .ensures) (numbers c), inside (e .before .before))
+    (start-ready (omega arith) (held (e .before .before .before)) (fitting e) (c .fresh .ensures), inside (e .before .before))
 
 add-all : tie.Need-add-all
 add-all c =
@@ -75,9 +54,6 @@ add-all c =
     let a = e .before .before .before .before .before .before .before .args in
     let v = holds-valid (a .n) (a .terms .now) (a .count) (held (e .before .before .before)) in
     record { fits = omega (arith, few (c .before .before .plan-node .ensures .again), v .room) }
-
-same-length-4 : tie.Need-same-length-4
-same-length-4 c = search needs
 
 returns-4 : tie.Need-returns-4
 returns-4 c =
@@ -92,9 +68,6 @@ write-plan-requires c κs =
     let v = holds-valid (a .n) (a .terms .now) (a .count) (held (e .before .before .before)) in
     (v .size, omega arith, few (c .before .before .before .before .plan-node .ensures .again))
 
-same-length-5 : tie.Need-same-length-5
-same-length-5 c = search needs
-
 returns-5 : tie.Need-returns-5
 returns-5 c =
     let e = c .before .before .before .before .before .before .before .before .before .before in
@@ -108,19 +81,19 @@ pub add-message-spec : {M : Type 1} → statement M
 add-message-spec =
     tie.close
     (tie.spec
-    holds-together-requires
-    same-length
+    (λ c κs. search needs)
+    (λ c. search needs)
     returns
-    same-length-2
+    (λ c. search needs)
     returns-2
-    draft-fits-requires
-    same-length-3
+    (λ c κs. search needs)
+    (λ c. search needs)
     returns-3
-    fresh-requires
+    (λ c κs. search needs)
     plan-node-requires
     add-all
-    same-length-4
+    (λ c. search needs)
     returns-4
     write-plan-requires
-    same-length-5
+    (λ c. search needs)
     returns-5)

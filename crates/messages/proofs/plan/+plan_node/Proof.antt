@@ -1,19 +1,15 @@
 -- The proof of the cycle of calls {plan_node}: each way out cites its law. The measure is the node's number. Assumes nothing.
-use Prim.Native.Nat.{ℕ, _+_, _*_, _<_}
-use mathlib.Core.Path.{_≡_, sym, _∙_, subst}
-use mathlib.Core.List.{List}
+use Prim.Native.Nat.{ℕ, _<_, _≤_}
+use mathlib.Core.Path.{_≡_, sym, _∙_}
 use native.Mathlib.Omega.{arith}
 use lib.ListN.{getD}
 use borrow.Author.Needs.{needs}
 use borrow.Fn.Kinds.{In}
 use borrow.Fn.PlainCycle.{Measures, is, falls, and}
-use Rattle.words.specs.declared.Term.the-variants.{Pair, Encrypted}
 use Rattle.drafts.specs.Draft.{nodeAt, layerOf}
 use Rattle.words.specs.Word.{wordOf}
 use Rattle.drafts.specs.declared.Layer.{Layer}
-use Rattle.drafts.specs.declared.Node.{Node}
-use Rattle.messages.specs.declared.plan.Plan.{Plan}
-use Rattle.messages.specs.Plan.{Ready, WordPlanned, NodePlanned}
+use Rattle.messages.specs.Plan.{Ready}
 use Rattle.messages.specs.Planning.{node-seen, node-stored, node-atom, node-pair, node-encrypted, pair-below, pair-room, body-below, body-room, room-left, number-small}
 use Rattle.messages.proofs.plan.plan_node.Reads as plan-node
 use Rattle.messages.proofs.plan.plan_node.Kinds as plan-node-kinds
@@ -71,50 +67,25 @@ unseen t c = c .before .before .if1 .left
 layer : (t : ℕ) (c : Split t) {L : Layer} → c .layer-of .result ≡ L → layerOf (nodeAt (start t c .args .t3) (start t c .args .k)) ≡ L
 layer t c e = sym (c .layer-of .ensures) ∙ e
 
--- a node that `note` noted
-by-note : {ts : List ℕ} {count : ℕ} {draft : List Node} {k : ℕ} {p : Plan} {number : ℕ} {q : Plan} {number′ : ℕ} {q′ : Plan}
-    → number′ ≡ number → q′ ≡ q → NodePlanned ts count draft k p number q → NodePlanned ts count draft k p number′ q′
-by-note e f h = rw (e, f) h
+-- once the operands are planned there is room for two words more
+pair-rooms : (t : ℕ) (c : plan-node-lts.After-plan-node2 (claims t) (plan-node-at t) plan-node.Post) → c .plan-node2 .result .plan .count ≤ 30
+pair-rooms t c =
+    let told = c .before .before .before in
+    let split = told .before .before .before in
+    pair-room (ready t split) (start t split .args .k) (below t split) (unseen t split) (layer t split (told .before .l .given .1)) (c .before .before .plan-node .ensures) (c .plan-node2 .ensures)
 
--- the words of `pack`
-pack-pair : (i j w : ℕ) → w ≡ 5 * 4294967296 + i * 65536 + j → w ≡ wordOf (Pair i j)
-unfolding wordOf
-pack-pair i j w e = e
-
-pack-encrypted : (i j w : ℕ) → w ≡ 6 * 4294967296 + i * 65536 + j → w ≡ wordOf (Encrypted i j)
-unfolding wordOf
-pack-encrypted i j w e = e
+body-rooms : (t : ℕ) (c : plan-node-lts.After-plan-node3 (claims t) (plan-node-at t) plan-node.Post) → c .plan-node3 .result .plan .count ≤ 30
+body-rooms t c =
+    let told = c .before in
+    let split = told .before .before .before in
+    body-room (ready t split) (start t split .args .k) (below t split) (unseen t split) (layer t split (told .before .body .given .1)) (c .plan-node3 .ensures)
 
 -- ---- the needs
-
-plan-node-mul-seen : (t : ℕ) → plan-node-lts.Need-mul-seen (claims t) (plan-node-at t) plan-node.Post
-plan-node-mul-seen t c = search needs
-
-plan-node-array-read-seen : (t : ℕ) → plan-node-lts.Need-array-read-seen (claims t) (plan-node-at t) plan-node.Post
-plan-node-array-read-seen t c = search needs
-
-plan-node-sub-t33 : (t : ℕ) → plan-node-lts.Need-sub-t33 (claims t) (plan-node-at t) plan-node.Post
-plan-node-sub-t33 t c = search needs
 
 plan-node-returns : (t : ℕ) → plan-node-lts.Need-returns (claims t) (plan-node-at t) plan-node.Post
 plan-node-returns t c =
     let s = c .before .before .before in
     node-seen (s .pre .1 .0) (s .args .k) (s .pre .1 .1) (c .if1 .taken)
-
-plan-node-mul-node : (t : ℕ) → plan-node-lts.Need-mul-node (claims t) (plan-node-at t) plan-node.Post
-plan-node-mul-node t c = search needs
-
-plan-node-array-copy-out-node : (t : ℕ) → plan-node-lts.Need-array-copy-out-node (claims t) (plan-node-at t) plan-node.Post
-plan-node-array-copy-out-node t c = search needs
-
-plan-node-layer-of-requires : (t : ℕ) → plan-node-lts.Need-layer-of-requires (claims t) (plan-node-at t) plan-node.Post
-plan-node-layer-of-requires t c κs = search needs
-
-plan-node-enum-known-i : (t : ℕ) → plan-node-lts.Need-enum-known-i (claims t) (plan-node-at t) plan-node.Post
-plan-node-enum-known-i t c = search needs
-
-plan-node-enum-known-word : (t : ℕ) → plan-node-lts.Need-enum-known-word (claims t) (plan-node-at t) plan-node.Post
-plan-node-enum-known-word t c = search needs
 
 plan-node-plan-word-requires : (t : ℕ) → plan-node-lts.Need-plan-word-requires (claims t) (plan-node-at t) plan-node.Post
 plan-node-plan-word-requires t c κs =
@@ -127,9 +98,6 @@ plan-node-note-requires t c κs =
     let split = c .before .before .before .before in
     let R = ready t split in
     (below t split, number-small (c .plan-word .ensures) (R .table .room) (omega (arith, room-left R (start t split .args .k) (below t split) (unseen t split))))
-
-plan-node-enum-known-l : (t : ℕ) → plan-node-lts.Need-enum-known-l (claims t) (plan-node-at t) plan-node.Post
-plan-node-enum-known-l t c = search needs
 
 plan-node-plan-node-requires : (t : ℕ) → plan-node-lts.Need-plan-node-requires (claims t) (plan-node-at t) plan-node.Post
 plan-node-plan-node-requires t c κs =
@@ -144,39 +112,15 @@ plan-node-plan-node-requires-2 t c κs =
     let h = pair-below (ready t split) (start t split .args .k) (below t split) (unseen t split) (layer t split (told .before .l .given .1)) in
     (omega (arith, h .1, start t split .pre .0), (c .before .plan-node .ensures .again, omega (arith, h .1, below t split)))
 
-plan-node-pack-requires : (t : ℕ) → plan-node-lts.Need-pack-requires (claims t) (plan-node-at t) plan-node.Post
-plan-node-pack-requires t c κs = search needs
-
 plan-node-plan-word-requires-2 : (t : ℕ) → plan-node-lts.Need-plan-word-requires-2 (claims t) (plan-node-at t) plan-node.Post
 plan-node-plan-word-requires-2 t c κs =
-    let told = c .before .before .before .before .before in
-    let split = told .before .before .before in
-    let R = ready t split in (
-      R .table .size,
-      R .table .room,
-      omega (
-        arith,
-        pair-room R (start t split .args .k) (below t split) (unseen t split) (layer t split (told .before .l .given .1)) (c .before .before .before .before .plan-node .ensures)
-            (c .before .before .plan-node2 .ensures),
-      ),
-    )
+    let R = ready t (c .before .before .before .before .before .before .before .before) in
+    (R .table .size, R .table .room, omega (arith, pair-rooms t (c .before .before)))
 
 plan-node-note-requires-2 : (t : ℕ) → plan-node-lts.Need-note-requires-2 (claims t) (plan-node-at t) plan-node.Post
 plan-node-note-requires-2 t c κs =
-    let told = c .before .before .before .before .before .before in
-    let split = told .before .before .before in
-    let R = ready t split in (
-      below t split,
-      number-small (c .plan-word2 .ensures) (R .table .room)
-          (omega (
-            arith,
-            pair-room R (start t split .args .k) (below t split) (unseen t split) (layer t split (told .before .l .given .1)) (c .before .before .before .before .before .plan-node .ensures)
-                (c .before .before .before .plan-node2 .ensures),
-          )),
-    )
-
-plan-node-enum-known-body : (t : ℕ) → plan-node-lts.Need-enum-known-body (claims t) (plan-node-at t) plan-node.Post
-plan-node-enum-known-body t c = search needs
+    let split = c .before .before .before .before .before .before .before .before .before in
+    (below t split, number-small (c .plan-word2 .ensures) (ready t split .table .room) (omega (arith, pair-rooms t (c .before .before .before))))
 
 plan-node-plan-node-requires-3 : (t : ℕ) → plan-node-lts.Need-plan-node-requires-3 (claims t) (plan-node-at t) plan-node.Post
 plan-node-plan-node-requires-3 t c κs =
@@ -186,27 +130,18 @@ plan-node-plan-node-requires-3 t c κs =
 
 plan-node-plan-word-requires-3 : (t : ℕ) → plan-node-lts.Need-plan-word-requires-3 (claims t) (plan-node-at t) plan-node.Post
 plan-node-plan-word-requires-3 t c κs =
-    let told = c .before .before in
-    let split = told .before .before .before in
-    let R = ready t split in
-    (R .table .size, R .table .room, omega (arith, body-room R (start t split .args .k) (below t split) (unseen t split) (layer t split (told .before .body .given .1)) (c .before .plan-node3 .ensures)))
-
-plan-node-pack-requires-2 : (t : ℕ) → plan-node-lts.Need-pack-requires-2 (claims t) (plan-node-at t) plan-node.Post
-plan-node-pack-requires-2 t c κs = search needs
+    let R = ready t (c .before .before .before .before .before) in
+    (R .table .size, R .table .room, omega (arith, body-rooms t (c .before)))
 
 plan-node-plan-word-requires-4 : (t : ℕ) → plan-node-lts.Need-plan-word-requires-4 (claims t) (plan-node-at t) plan-node.Post
 plan-node-plan-word-requires-4 t c κs =
-    let told = c .before .before .before .before .before in
-    let split = told .before .before .before in
-    let R = ready t split in
-    (R .table .size, R .table .room, omega (arith, c .before .before .plan-word3 .ensures .most, body-room R (start t split .args .k) (below t split) (unseen t split) (layer t split (told .before .body .given .1)) (c .before .before .before .before .plan-node3 .ensures)))
+    let R = ready t (c .before .before .before .before .before .before .before .before) in
+    (R .table .size, R .table .room, omega (arith, c .before .before .plan-word3 .ensures .most, body-rooms t (c .before .before .before .before)))
 
 plan-node-note-requires-3 : (t : ℕ) → plan-node-lts.Need-note-requires-3 (claims t) (plan-node-at t) plan-node.Post
 plan-node-note-requires-3 t c κs =
-    let told = c .before .before .before .before .before .before in
-    let split = told .before .before .before in
-    let R = ready t split in
-    (below t split, number-small (c .plan-word4 .ensures) (R .table .room) (omega (arith, c .before .before .before .plan-word3 .ensures .most, body-room R (start t split .args .k) (below t split) (unseen t split) (layer t split (told .before .body .given .1)) (c .before .before .before .before .before .plan-node3 .ensures))))
+    let split = c .before .before .before .before .before .before .before .before .before in
+    (below t split, number-small (c .plan-word4 .ensures) (ready t split .table .room) (omega (arith, c .before .before .before .plan-word3 .ensures .most, body-rooms t (c .before .before .before .before .before))))
 
 plan-node-returns-2 : (t : ℕ) → plan-node-lts.Need-returns-2 (claims t) (plan-node-at t) plan-node.Post
 plan-node-returns-2 t c =
@@ -217,63 +152,53 @@ plan-node-returns-3 : (t : ℕ) → plan-node-lts.Need-returns-3 (claims t) (pla
 plan-node-returns-3 t c =
     let told = c .before .before in
     let split = told .before .before .before in
-    by-note (c .note .ensures .0) (c .note .ensures .1)
+    rw (c .note .ensures)
     (node-atom (ready t split) (start t split .args .k) (below t split) (layer t split (told .before .word .given .1)) (unseen t split)
     (c .before .plan-word .ensures))
 
 plan-node-returns-4 : (t : ℕ) → plan-node-lts.Need-returns-4 (claims t) (plan-node-at t) plan-node.Post
+unfolding wordOf
 plan-node-returns-4 t c =
     let told = c .before .before .before .before .before .before .before in
     let split = told .before .before .before in
-    let a = start t split .args in
-    let i = c .before .before .before .before .before .before .plan-node .result .number in
-    let second = c .before .before .before .before .plan-node2 in
-    let word = c .before .plan-word2 in
-    by-note (c .note2 .ensures .0) (c .note2 .ensures .1)
-    (node-pair (ready t split) (a .k) (below t split) (unseen t split) (layer t split (told .before .l .given .1)) (c .before .before .before .before .before .before .plan-node .ensures)
-    (second .ensures)
-    (subst (λ (w : ℕ). WordPlanned (a .terms .now) (a .count) (second .result .plan) w (word .result .number) (word .result .plan))
-    (pack-pair i (second .result .number) _ (c .before .before .pack .ensures)) (word .ensures)))
+    rw (c .note2 .ensures)
+    (node-pair (ready t split) (start t split .args .k) (below t split) (unseen t split) (layer t split (told .before .l .given .1))
+    (c .before .before .before .before .before .before .plan-node .ensures) (c .before .before .before .before .plan-node2 .ensures) (c .before .before .pack .ensures) (c .before .plan-word2 .ensures))
 
 plan-node-returns-5 : (t : ℕ) → plan-node-lts.Need-returns-5 (claims t) (plan-node-at t) plan-node.Post
+unfolding wordOf
 plan-node-returns-5 t c =
     let told = c .before .before .before .before .before .before .before in
     let split = told .before .before .before in
-    let a = start t split .args in
-    let i = c .before .before .before .before .before .before .plan-node3 .result .number in
-    let second = c .before .before .before .before .plan-word3 in
-    let word = c .before .plan-word4 in
-    by-note (c .note3 .ensures .0) (c .note3 .ensures .1)
-    (node-encrypted (ready t split) (a .k) (below t split) (unseen t split) (layer t split (told .before .body .given .1)) (c .before .before .before .before .before .before .plan-node3 .ensures)
-    (second .ensures)
-    (subst (λ (w : ℕ). WordPlanned (a .terms .now) (a .count) (second .result .plan) w (word .result .number) (word .result .plan))
-    (pack-encrypted i (second .result .number) _ (c .before .before .pack2 .ensures)) (word .ensures)))
+    rw (c .note3 .ensures)
+    (node-encrypted (ready t split) (start t split .args .k) (below t split) (unseen t split) (layer t split (told .before .body .given .1))
+    (c .before .before .before .before .before .before .plan-node3 .ensures) (c .before .before .before .before .plan-word3 .ensures) (c .before .before .pack2 .ensures) (c .before .plan-word4 .ensures))
 
 pub +plan-node-spec : {M : Type 1} → statement M
 +plan-node-spec = close μ-plan-node λ t. plan-node-lts.spec (claims t)
     (plan-node-at t)
     plan-node.Post
-    (plan-node-mul-seen t)
-    (plan-node-array-read-seen t)
-    (plan-node-sub-t33 t)
+    (λ c. search needs)
+    (λ c. search needs)
+    (λ c. search needs)
     (plan-node-returns t)
-    (plan-node-mul-node t)
-    (plan-node-array-copy-out-node t)
-    (plan-node-layer-of-requires t)
-    (plan-node-enum-known-i t)
-    (plan-node-enum-known-word t)
+    (λ c. search needs)
+    (λ c. search needs)
+    (λ c κs. search needs)
+    (λ c. search needs)
+    (λ c. search needs)
     (plan-node-plan-word-requires t)
     (plan-node-note-requires t)
-    (plan-node-enum-known-l t)
+    (λ c. search needs)
     (plan-node-plan-node-requires t)
     (plan-node-plan-node-requires-2 t)
-    (plan-node-pack-requires t)
+    (λ c κs. search needs)
     (plan-node-plan-word-requires-2 t)
     (plan-node-note-requires-2 t)
-    (plan-node-enum-known-body t)
+    (λ c. search needs)
     (plan-node-plan-node-requires-3 t)
     (plan-node-plan-word-requires-3 t)
-    (plan-node-pack-requires-2 t)
+    (λ c κs. search needs)
     (plan-node-plan-word-requires-4 t)
     (plan-node-note-requires-3 t)
     (plan-node-returns-2 t)

@@ -11,12 +11,6 @@ use Rattle.messages.proofs.plan.plan_word.Tie as tie
 places : (c : tie.After-find-arg2) → length (c .before .before .before .before .args .plan .words) ≡ 32
 places c = search needs
 
-find-requires : tie.Need-find-requires
-find-requires c κs = search needs
-
-enum-known-j : tie.Need-enum-known-j
-enum-known-j c = search needs
-
 add-t12 : tie.Need-add-t12
 add-t12 c =
     let a = c .before .before .before .before .before .before .before .before .args in
@@ -34,15 +28,6 @@ returns c =
     let a = c .before .before .before .before .before .before .before .before .args in
     planned-before (a .terms .now) (a .count) (a .plan) (a .word) (omega (arith, c .before .before .before .before .before .before .before .before .pre .0)) (omega (arith, places (c .before .before .before .before))) (sym (c .before .before .before .find .ensures) ∙ c .before .j .given .1)
 
-enum-told : tie.Need-enum-told
-enum-told c = search needs
-
-find-requires-2 : tie.Need-find-requires-2
-find-requires-2 c κs = search needs
-
-enum-known-i : tie.Need-enum-known-i
-enum-known-i c = search needs
-
 cast-t15 : tie.Need-cast-t15
 cast-t15 c =
     let a = c .before .before .before .before .before .before .before .before .before .before .before .args in
@@ -55,24 +40,6 @@ returns-2 c =
     in-the-table (a .terms .now) (a .count) (a .plan) (a .word) (omega (arith, c .before .before .before .before .before .before .before .before .before .before .before .pre .0)) (omega (arith, places (c .before .before .before .before .before .before .before)))
     (sym (c .before .before .before .before .before .before .find .ensures) ∙ c .before .before .before .before .enum-told .given .1) (sym (c .before .before .before .find2 .ensures) ∙ c .before .i .given .1)
 
-enum-told-2 : tie.Need-enum-told-2
-enum-told-2 c = search needs
-
-mul-next : tie.Need-mul-next
-mul-next c = search needs
-
-element-write-next : tie.Need-element-write-next
-element-write-next c = search needs
-
-add-next : tie.Need-add-next
-add-next c = search needs
-
-add-t16 : tie.Need-add-t16
-add-t16 c = search needs
-
-cast-t19 : tie.Need-cast-t19
-cast-t19 c = search needs
-
 returns-3 : tie.Need-returns-3
 returns-3 c =
     let a = c .before .before .before .before .before .before .before .before .before .before .args in
@@ -83,20 +50,20 @@ pub plan-word-spec : {M : Type 1} → statement M
 plan-word-spec =
     tie.close
     (tie.spec
-    find-requires
-    enum-known-j
+    (λ c κs. search needs)
+    (λ c. search needs)
     add-t12
     cast-t13
     returns
-    enum-told
-    find-requires-2
-    enum-known-i
+    (λ c. search needs)
+    (λ c κs. search needs)
+    (λ c. search needs)
     cast-t15
     returns-2
-    enum-told-2
-    mul-next
-    element-write-next
-    add-next
-    add-t16
-    cast-t19
+    (λ c. search needs)
+    (λ c. search needs)
+    (λ c. search needs)
+    (λ c. search needs)
+    (λ c. search needs)
+    (λ c. search needs)
     returns-3)

@@ -22,27 +22,6 @@ places c = search needs
 loop-holds : tie.Need-loop-holds Inv-loop μ-loop
 loop-holds c = (search needs, refl, paste-zero (c .before .args .terms .now) (c .before .args .count) (c .before .args .plan .words))
 
-mul-terms : tie.Need-mul-terms Inv-loop μ-loop
-mul-terms c = search needs
-
-array-read-terms : tie.Need-array-read-terms Inv-loop μ-loop
-array-read-terms c = search needs
-
-add-terms : tie.Need-add-terms Inv-loop μ-loop
-add-terms c = search needs
-
-mul-terms-2 : tie.Need-mul-terms-2 Inv-loop μ-loop
-mul-terms-2 c = search needs
-
-slice-write-terms : tie.Need-slice-write-terms Inv-loop μ-loop
-slice-write-terms c = search needs
-
-add-i : tie.Need-add-i Inv-loop μ-loop
-add-i c = search needs
-
-loop-less : tie.Need-loop-less Inv-loop μ-loop
-loop-less c = search needs
-
 loop-again : tie.Need-loop-again Inv-loop μ-loop
 loop-again c =
     let a = c .before .before .before .args in
@@ -55,9 +34,6 @@ loop-again c =
           ∙ paste-suc d (a .count) w (at .i) 0 (omega arith) (omega (arith, places (c .before)))
           ∙ ap (λ (n : ℕ). paste d (a .count) w n) (sym (add-one (at .i))),
     )
-
-same-length : tie.Need-same-length Inv-loop μ-loop
-same-length c = search needs
 
 returns : tie.Need-returns Inv-loop μ-loop
 returns c =
@@ -72,13 +48,13 @@ write-plan-spec =
     Inv-loop
     μ-loop
     loop-holds
-    mul-terms
-    array-read-terms
-    add-terms
-    mul-terms-2
-    slice-write-terms
-    add-i
-    loop-less
+    (λ c. search needs)
+    (λ c. search needs)
+    (λ c. search needs)
+    (λ c. search needs)
+    (λ c. search needs)
+    (λ c. search needs)
+    (λ c. search needs)
     loop-again
-    same-length
+    (λ c. search needs)
     returns)

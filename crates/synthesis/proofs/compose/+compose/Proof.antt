@@ -90,34 +90,10 @@ two-are m c = sym (operands-are m (c .before .before)) ∙ c .l .given .1
 
 -- ---- the needs
 
-compose-has-requires : (m : ℕ) → compose-lts.Need-has-requires (claims m) (compose-at m) compose.Post
-compose-has-requires m c κs = search needs
-
 compose-returns : (m : ℕ) → compose-lts.Need-returns (claims m) (compose-at m) compose.Post
 compose-returns m c =
     let s = c .before .before .before in
     composed-known (s .args .who .flags) (s .pre .1 .0) (words m s) (s .args .t) (s .pre .1 .1) (sym (c .before .has .ensures) ∙ c .if1 .taken)
-
-compose-mul-decode : (m : ℕ) → compose-lts.Need-mul-decode (claims m) (compose-at m) compose.Post
-compose-mul-decode m c = search needs
-
-compose-shared-slice-read-decode : (m : ℕ) → compose-lts.Need-shared-slice-read-decode (claims m) (compose-at m) compose.Post
-compose-shared-slice-read-decode m c = search needs
-
-compose-decode-requires : (m : ℕ) → compose-lts.Need-decode-requires (claims m) (compose-at m) compose.Post
-compose-decode-requires m c κs = search needs
-
-compose-operands-of-requires : (m : ℕ) → compose-lts.Need-operands-of-requires (claims m) (compose-at m) compose.Post
-compose-operands-of-requires m c κs = search needs
-
-compose-enum-known-l : (m : ℕ) → compose-lts.Need-enum-known-l (claims m) (compose-at m) compose.Post
-compose-enum-known-l m c = search needs
-
-compose-enum-told : (m : ℕ) → compose-lts.Need-enum-told (claims m) (compose-at m) compose.Post
-compose-enum-told m c = search needs
-
-compose-is-public-requires : (m : ℕ) → compose-lts.Need-is-public-requires (claims m) (compose-at m) compose.Post
-compose-is-public-requires m c κs = search needs
 
 compose-returns-2 : (m : ℕ) → compose-lts.Need-returns-2 (claims m) (compose-at m) compose.Post
 compose-returns-2 m c =
@@ -126,12 +102,6 @@ compose-returns-2 m c =
     composed-atom (s .args .who .flags) (s .pre .1 .0) (words m s) (s .args .t) (s .pre .1 .1) (away m split)
     (sym (operands-are m split) ∙ c .before .enum-told .given .1) (c .is-public .result)
     (c .is-public .ensures ∙ ap (publicOf (s .args .who .flags)) (split .before .decode .ensures))
-
-compose-cast-compose : (m : ℕ) → compose-lts.Need-cast-compose (claims m) (compose-at m) compose.Post
-compose-cast-compose m c = search needs
-
-compose-cast-compose-2 : (m : ℕ) → compose-lts.Need-cast-compose-2 (claims m) (compose-at m) compose.Post
-compose-cast-compose-2 m c = search needs
 
 compose-compose-requires : (m : ℕ) → compose-lts.Need-compose-requires (claims m) (compose-at m) compose.Post
 compose-compose-requires m c κs =
@@ -163,9 +133,6 @@ compose-returns-4 m c =
     (not-false _ (c .before .before .before .before .if2 .left)) (c .before .before .before .before .before .before .compose .ensures)
     (away m (named .before .before)) (not-true _ (c .if3 .taken)) (c .before .before .compose2 .ensures)
 
-compose-with-requires : (m : ℕ) → compose-lts.Need-with-requires (claims m) (compose-at m) compose.Post
-compose-with-requires m c κs = search needs
-
 compose-returns-5 : (m : ℕ) → compose-lts.Need-returns-5 (claims m) (compose-at m) compose.Post
 compose-returns-5 m c =
     let named = c .before .before .before .before .before .before .before .before .before .before in
@@ -178,7 +145,7 @@ compose-returns-5 m c =
 pub +compose-spec : {M : Type 1} → statement M
 +compose-spec =
     close μ-compose
-    (λ m. compose-lts.spec (claims m) (compose-at m) compose.Post (compose-has-requires m) (compose-returns m) (compose-mul-decode m)
-    (compose-shared-slice-read-decode m) (compose-decode-requires m) (compose-operands-of-requires m) (compose-enum-known-l m)
-    (compose-enum-told m) (compose-is-public-requires m) (compose-returns-2 m) (compose-cast-compose m) (compose-compose-requires m) (compose-returns-3 m) (compose-cast-compose-2 m)
-    (compose-compose-requires-2 m) (compose-returns-4 m) (compose-with-requires m) (compose-returns-5 m))
+    (λ m. compose-lts.spec (claims m) (compose-at m) compose.Post (λ c κs. search needs) (compose-returns m) (λ c. search needs)
+    (λ c. search needs) (λ c κs. search needs) (λ c κs. search needs) (λ c. search needs)
+    (λ c. search needs) (λ c κs. search needs) (compose-returns-2 m) (λ c. search needs) (compose-compose-requires m) (compose-returns-3 m) (λ c. search needs)
+    (compose-compose-requires-2 m) (compose-returns-4 m) (λ c κs. search needs) (compose-returns-5 m))

@@ -20,16 +20,10 @@ abbrev μ-loop : tie.MeasureT-loop
 loop-holds : tie.Need-loop-holds Inv-loop μ-loop
 loop-holds c = let s = c .before .before in (omega arith, s .pre .1, chains-start (s .args .terms .now) (s .args .chains .now))
 
-mul-decode : tie.Need-mul-decode Inv-loop μ-loop
-mul-decode c = search needs
-
 shared-slice-read-decode : tie.Need-shared-slice-read-decode Inv-loop μ-loop
 shared-slice-read-decode c =
     let v = c .before .before .before .before .before .before .pre .0 .valid in
     omega (arith, v .size, v .room)
-
-decode-requires : tie.Need-decode-requires Inv-loop μ-loop
-decode-requires c κs = search needs
 
 link-requires : tie.Need-link-requires Inv-loop μ-loop
 link-requires c κs =
@@ -40,12 +34,6 @@ link-requires c κs =
       subst (Under 512) (sym (c .decode .ensures)) (under-at (v .terms) (at .i) 512 (omega arith) (omega arith)),
       low,
     )
-
-add-i : tie.Need-add-i Inv-loop μ-loop
-add-i c = search needs
-
-loop-less : tie.Need-loop-less Inv-loop μ-loop
-loop-less c = search needs
 
 loop-again : tie.Need-loop-again Inv-loop μ-loop
 loop-again c =
@@ -59,9 +47,6 @@ loop-again c =
           ∙ ap (linkOf (termAt (s .args .terms .now) (at .i)) (at .i)) (at .inv .2)
           ∙ chains-next (s .args .terms .now) (s .args .chains .now) (at .i),
     )
-
-same-length : tie.Need-same-length Inv-loop μ-loop
-same-length c = search needs
 
 returns : tie.Need-returns Inv-loop μ-loop
 returns c =
@@ -77,12 +62,12 @@ chain-spec =
     Inv-loop
     μ-loop
     loop-holds
-    mul-decode
+    (λ c. search needs)
     shared-slice-read-decode
-    decode-requires
+    (λ c κs. search needs)
     link-requires
-    add-i
-    loop-less
+    (λ c. search needs)
+    (λ c. search needs)
     loop-again
-    same-length
+    (λ c. search needs)
     returns)

@@ -9,22 +9,10 @@ use Rattle.worklist.specs.Found.{asFound, new-place, learn-again, learn-
 use Rattle.worklist.proofs.found.learn.Statement.{statement}
 use Rattle.worklist.proofs.found.learn.Tie as tie
 
-is-marked-requires : tie.Need-is-marked-requires
-is-marked-requires c κs = search needs
-
-same-length : tie.Need-same-length
-same-length c = search needs
-
 returns : tie.Need-returns
 returns c =
     let s = c .before .before .before .before .before in
     learn-again (asFound (s .args .set .now) (s .args .list .now) (s .args .found)) (s .args .t) (sym (c .before .is-marked .ensures) ∙ c .if1 .taken)
-
-mark-requires : tie.Need-mark-requires
-mark-requires c κs = search needs
-
-cast-list : tie.Need-cast-list
-cast-list c = search needs
 
 -- the term is new, so that there is a place
 place : (c : tie.After-slice-known3)
@@ -46,12 +34,6 @@ slice-write-list c =
 add-result : tie.Need-add-result
 add-result c = search (needs, place c .1)
 
-same-length-2 : tie.Need-same-length-2
-same-length-2 c = search needs
-
-same-length-3 : tie.Need-same-length-3
-same-length-3 c = search needs
-
 returns-2 : tie.Need-returns-2
 returns-2 c =
     let s = c .before .before .before .before .before .before .before .before .before in
@@ -61,14 +43,14 @@ pub learn-spec : {M : Type 1} → statement M
 learn-spec =
     tie.close
     (tie.spec
-    is-marked-requires
-    same-length
+    (λ c κs. search needs)
+    (λ c. search needs)
     returns
-    mark-requires
-    cast-list
+    (λ c κs. search needs)
+    (λ c. search needs)
     mul-list
     slice-write-list
     add-result
-    same-length-2
-    same-length-3
+    (λ c. search needs)
+    (λ c. search needs)
     returns-2)

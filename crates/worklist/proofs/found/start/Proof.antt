@@ -24,12 +24,6 @@ notice-requires c κs =
     let s = c .before .before .before .before .before .before .before in
     (s .pre .0, omega (arith, s .pre .1), c .before .before .before .loop .inv .1)
 
-add-i : tie.Need-add-i Inv-loop μ-loop
-add-i c = search needs
-
-loop-less : tie.Need-loop-less Inv-loop μ-loop
-loop-less c = search needs
-
 loop-again : tie.Need-loop-again Inv-loop μ-loop
 loop-again c =
     let s = c .before .before .before .before .before .before .before .before .before .before .before .before in
@@ -64,8 +58,8 @@ start-spec =
     μ-loop
     loop-holds
     notice-requires
-    add-i
-    loop-less
+    (λ c. search needs)
+    (λ c. search needs)
     loop-again
     same-length
     same-length-2
