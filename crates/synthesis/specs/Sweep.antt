@@ -38,20 +38,21 @@ sweepOf flags ts (suc m) ws = sweepOf flags ts m (visitOf flags ts ws m)
 -- ---- the set grows
 
 module _ (flags : ℕ) {n : ℕ} {ts : List ℕ} {count : ℕ} (v : Valid n ts count) where
-  visit-grown : {ws : List ℕ} → Words 8 ws → (i : ℕ) → i < count → Grown 8 ws (visitOf flags ts ws i)
-  unfolding visitOf
-  visit-grown {ws} w i h =
-      cond-elim (Grown 8 ws) (marked ws i) (partsOf flags ts ws (termAt ts i)) ws
-      (λ _.
+  parts-grown : {ws : List ℕ} → Words 8 ws → (i : ℕ) → i < count → Grown 8 ws (partsOf flags ts ws (termAt ts i))
+  parts-grown {ws} w i h =
       operands-elim (Grown 8 ws) ws (λ l r. withMark (withMark ws l) r) (λ b k. cond (opensOf flags ts ws k) (withMark ws b) ws) (termAt ts i) (grown-refl w)
       (λ l r e.
       let f = fields-of (v .terms) i h e in
       let g = grown-with w l (omega (arith, v .room, f .0)) in
       grown-trans g (grown-with (g .words) r (omega (arith, v .room, f .1))))
       (λ b k e.
-      cond-elim (Grown 8 ws) (opensOf flags ts ws k) (withMark ws b) ws
-      (λ _. grown-with w b (omega (arith, v .room, fields-of (v .terms) i h e .0))) (λ _. grown-refl w)))
-      (λ _. grown-refl w)
+      let f = fields-of (v .terms) i h e in
+      cond-elim (Grown 8 ws) (opensOf flags ts ws k) (withMark ws b) ws (λ _. grown-with w b (omega (arith, v .room, f .0))) (λ _. grown-refl w))
+
+  visit-grown : {ws : List ℕ} → Words 8 ws → (i : ℕ) → i < count → Grown 8 ws (visitOf flags ts ws i)
+  unfolding visitOf
+  visit-grown {ws} w i h =
+      cond-elim (Grown 8 ws) (marked ws i) (partsOf flags ts ws (termAt ts i)) ws (λ _. parts-grown w i h) (λ _. grown-refl w)
 
   pub sweep-grown : (m : ℕ) → m ≤ count → {ws : List ℕ} → Words 8 ws → Grown 8 ws (sweepOf flags ts m ws)
   unfolding sweepOf
