@@ -4,7 +4,7 @@ use borrow.Author.Needs.{needs}
 use native.Mathlib.Omega.{arith}
 use Rattle.forms.specs.Forms.Laws.{confirmation-read}
 use Rattle.layers.specs.Layers.{TIME}
-use Rattle.layers.specs.Laws.Layers.{stops, rest-stops, goes}
+use Rattle.layers.specs.Laws.Layers.{stops, goes}
 use Rattle.layers.specs.Laws.Present.{atom-here, opens}
 use Rattle.layers.specs.Laws.Ways.{not-atom}
 use Rattle.forms.proofs.open_confirmation.Statement.{statement}
@@ -23,7 +23,7 @@ returns-2 c =
     let l₁ = c .before .before in
     let x₁ = opens (l₁ .before .k .given .1) _ _ (l₁ .before .before .before .under-session-key .ensures) in
     let last = not-atom (x₁ .1) (c .before .term-at .ensures) TIME (omega arith) (c .match2 .keys2) in
-    confirmation-read _ (rest-stops _ _ _ (x₁ .0) last)
+    confirmation-read _ (goes _ _ _ (x₁ .0) last)
 
 returns-3 : tie.Need-returns-3
 returns-3 c =

@@ -1,5 +1,5 @@
--- Laws of the layers. `Reads` and `Layer` say exactly which messages a form and a layer have; `stops`, `rest-stops` and
--- `goes` are the ways out of a chain.
+-- Laws of the layers. `Reads` and `Layer` say exactly which messages a form and a layer have; `stops` and `goes` are the ways
+-- out of a chain.
 -- Assumes nothing.
 use mathlib.Core.Logic.{_↔_}
 use mathlib.Core.Option.{Option, none, some}
@@ -169,14 +169,9 @@ module _ {A : Type 0} (l : Message → Option (ℕ × Message)) (s : Message →
   unfolding _▸_
   stops e = rw e
 
-  module _ {v : ℕ} {x : Message} (e : l m ≡ some (v, x)) where
-    pub rest-stops : s x ≡ none → (l ▸ s) m ≡ none
-    unfolding _▸_
-    rest-stops h = rw (e, h)
-
-    pub goes : {w : A} → s x ≡ some w → (l ▸ s) m ≡ some (v, w)
-    unfolding _▸_
-    goes h = rw (e, h)
+  pub goes : {v : ℕ} {x : Message} → l m ≡ some (v, x) → {o : Option A} → s x ≡ o → (l ▸ s) m ≡ given o none (λ w. some (v, w))
+  unfolding _▸_
+  goes e h = rw (e, h)
 
   after-back : (o : Option (ℕ × Message)) (v : ℕ) (w : A) → after s o ≡ some (v, w) → (x : Message) × (o ≡ some (v, x)) × (s x ≡ some w)
   after-back none v w e = absurd (not-some e)
