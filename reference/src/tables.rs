@@ -25,6 +25,39 @@ pub struct Place {
     pub ta: u32,
 }
 
+/// Puts an entry behind the others, and gives their number: "called alone, both
+/// give 10 for a list or count that does not fit, and remember then 18 or 19 as
+/// in step 5".
+pub fn remember(list: &mut [Place], count: usize, entry: Place) -> Result<usize, Refusal> {
+    holds(list.len() == MAX_ENTRIES && count <= MAX_ENTRIES)?;
+    if list[..count].contains(&entry) {
+        return Err(Refusal::Replayed);
+    }
+    if count == MAX_ENTRIES {
+        return Err(Refusal::CacheFull);
+    }
+    list[count] = entry;
+    Ok(count + 1)
+}
+
+/// Forgets b's entries whose Ta + La is at or below the clock, and gives the
+/// number of the others: "the kept ones move to the front and the freed places
+/// become 0".
+pub fn forget(
+    list: &mut [Place],
+    count: usize,
+    b: u16,
+    clock: u32,
+    life: u32,
+) -> Result<usize, Refusal> {
+    holds(list.len() == MAX_ENTRIES && count <= MAX_ENTRIES)?;
+    let mut kept = list[..count].to_vec();
+    kept.retain(|entry| entry.b != b || u64::from(entry.ta) + u64::from(life) > u64::from(clock));
+    list[..count].fill(Place::default());
+    list[..kept.len()].copy_from_slice(&kept);
+    Ok(kept.len())
+}
+
 /// How many places of each table are in use.
 #[derive(Clone, Copy, Debug, Default, PartialEq, Eq)]
 pub struct Counts {
@@ -41,7 +74,7 @@ pub struct Tables {
     pub terms: Vec<u64>,
     pub runs: Vec<u32>,
     pub wire: Vec<u64>,
-    pub cache: [Place; MAX_ENTRIES],
+    pub cache: Vec<Place>,
 }
 
 impl Tables {
@@ -80,6 +113,7 @@ impl Tables {
             self.terms.len() == TERM_PLACES
                 && self.runs.len() == RUN_WORDS
                 && self.wire.len() == WIRE_WORDS
+                && self.cache.len() == MAX_ENTRIES
                 && self.counts.terms <= MAX_TERMS
                 && self.counts.runs <= MAX_RUNS
                 && self.counts.entries <= MAX_ENTRIES,

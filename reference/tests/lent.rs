@@ -6,7 +6,9 @@ use std::path::PathBuf;
 use reference::file::{read_header, read_record, Header, Record, StepRecord};
 use reference::realm::{Answer, Realm, MAX_ENTRIES};
 use reference::refusal::Refusal;
-use reference::tables::{Counts, Place, Tables, RUN_WORDS, TERM_PLACES, WIRE_WORDS};
+use reference::tables::{
+    forget, remember, Counts, Place, Tables, RUN_WORDS, TERM_PLACES, WIRE_WORDS,
+};
 
 /// Tables of a new realm, with what is no term, run or entry in their places.
 fn tables(header: Header) -> Tables {
@@ -17,7 +19,7 @@ fn tables(header: Header) -> Tables {
         terms: vec![u64::MAX; TERM_PLACES],
         runs: vec![u32::MAX; RUN_WORDS],
         wire: vec![0; WIRE_WORDS],
-        cache: [Place { b: 99, k: 99, ta: 99 }; MAX_ENTRIES],
+        cache: vec![Place { b: 99, k: 99, ta: 99 }; MAX_ENTRIES],
     }
 }
 
@@ -95,12 +97,39 @@ fn forgotten_entries_leave_zeros() {
 }
 
 #[test]
+fn the_steps_do_what_the_two_calls_do() {
+    let (header, records) = walk(examples().join("case-f.walk"));
+    let mut tables = tables(header);
+    for record in records {
+        let before = tables.clone();
+        let answer = tables.call(&record);
+        if matches!(record, Record::Step(StepRecord { step: 5, .. })) {
+            let mut list = before.cache.clone();
+            let count = remember(&mut list, before.counts.entries, Place { b: 2, k: 1, ta: 0 });
+            assert_eq!(count.err(), answer.err());
+            assert_eq!(list, tables.cache);
+        }
+    }
+    for clock in [9, 10] {
+        tables.call(&tick(clock)).unwrap();
+        let (mut list, count) = (tables.cache.clone(), tables.counts.entries);
+        let forgets = Record::Step(StepRecord { step: 8, b: 2, ..StepRecord::default() });
+        tables.call(&forgets).unwrap();
+        assert_eq!(forget(&mut list, count, 2, clock, 10), Ok(tables.counts.entries));
+        assert_eq!(list, tables.cache);
+    }
+    assert_eq!(tables.counts.entries, 0);
+}
+
+#[test]
 fn each_thing_spoilt_alone_gives_10() {
-    let spoil: [fn(&mut Tables); 12] = [
+    let spoil: [fn(&mut Tables); 14] = [
         |t| t.header.flags = 1,
         |t| t.terms.push(0),
         |t| t.runs.truncate(447),
         |t| t.wire.clear(),
+        |t| t.cache.truncate(15),
+        |t| t.cache.push(Place::default()),
         |t| t.counts.terms = 513,
         |t| t.counts.runs = 65,
         |t| t.counts.entries = 17,

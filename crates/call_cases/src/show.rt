@@ -1,4 +1,5 @@
 // Writing answers, and what has changed.
+use cases::print_changes;
 use cases::print_number;
 use exchange::call::Answer;
 use realm::header::Realm;
@@ -21,27 +22,25 @@ pub fn print_answer(answer: Answer) {
     }
 }
 
-// Writes a field of the realm if it has changed.
-fn print_field(name: &[u8], before: u64, after: u64) {
-    if before != after {
-        print_number(name, after);
-    }
+// A realm, field by field.
+fn fields(h: Realm) -> [u64; 8] {
+    [
+        h.n as u64,
+        h.flags as u64,
+        h.ls as u64,
+        h.la as u64,
+        h.clock as u64,
+        h.terms as u64,
+        h.runs as u64,
+        h.entries as u64,
+    ]
 }
 
-// Writes what has changed of the realm's header.
-pub fn print_header(before: Realm, after: Realm) {
-    print_field(b", n ", before.n as u64, after.n as u64);
-    print_field(b", flags ", before.flags as u64, after.flags as u64);
-    print_field(b", Ls ", before.ls as u64, after.ls as u64);
-    print_field(b", La ", before.la as u64, after.la as u64);
-}
-
-// Writes what has changed of its clock and its counts.
-pub fn print_counts(before: Realm, after: Realm) {
-    print_field(b", clock ", before.clock as u64, after.clock as u64);
-    print_field(b", terms ", before.terms as u64, after.terms as u64);
-    print_field(b", runs ", before.runs as u64, after.runs as u64);
-    print_field(b", entries ", before.entries as u64, after.entries as u64);
+// Writes each field of the realm that has changed.
+pub fn print_realm(before: Realm, after: Realm) {
+    let old = fields(before);
+    let new = fields(after);
+    print_changes(b", field ", &old, &new);
 }
 
 // Word i of the table of runs: the run, and the place of the word in it.
@@ -73,9 +72,9 @@ fn print_entry(place: usize, before: Entry, after: Entry) {
 }
 
 // Writes each place of the cache that has changed.
-pub fn print_cache(before: [Entry; 16], after: [Entry; 16]) {
+pub fn print_cache(before: [Entry; 17], after: [Entry; 17]) {
     let mut i: usize = 0;
-    while i < 16 {
+    while i < 17 {
         let old = before[i];
         let new = after[i];
         print_entry(i, old, new);

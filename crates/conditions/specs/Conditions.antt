@@ -3,11 +3,11 @@
 use Prim.Native.Nat.{ℕ, _+_, _<_}
 use mathlib.Core.Bool.{Bool, not, cond}
 use mathlib.Core.List.{List}
-use lib.Dec.{ltb, eqb}
+use lib.Dec.{ltb}
 use Rattle.marks.specs.Marks.{Words}
 use Rattle.terms.specs.Valid.{Valid}
 use Rattle.synthesis.specs.Test.{derivableOf}
-use Rattle.replay.specs.Cache.{present, entries}
+use Rattle.replay.specs.Cache.{cacheRefusal}
 use Rattle.replay.specs.declared.entry.Entry.{Entry}
 use Rattle.realm.specs.declared.header.Realm.{Realm}
 
@@ -29,10 +29,9 @@ ticketLives h ts = ltb (h .clock) (ts + h .ls)
 abbrev pub authenticatorLives : Realm → ℕ → Bool
 authenticatorLives h ta = ltb (h .clock) (ta + h .la)
 
--- 0, or the number of the refusal: 16, 17, 18 "b, K, Ta is in the cache", 19 "the cache holds 16 entries"
+-- 0, or the number of the refusal: 16, 17, then 18 and 19 of the cache
 unfoldable pub admission : Realm → List Entry → (ts : ℕ) → Entry → ℕ
 admission h cache ts e =
     cond (not (ticketLives h ts)) 16
     (cond (not (authenticatorLives h (e .ta))) 17
-    (cond (present (entries cache (h .entries)) e) 18
-    (cond (eqb (h .entries) 16) 19 0)))
+    (cacheRefusal cache (h .entries) e))

@@ -1,11 +1,8 @@
 // The conditions that steps share: whether the intruder can deliver a message, lives, and the replay cache.
 use deduction::Principals;
 use realm::header::Realm;
-use replay::cache::find;
+use replay::cache::refusal;
 use replay::entry::Entry;
-use replay::entry::PLACES;
-use replay::entry::REFUSE_CACHE_FULL;
-use replay::entry::REFUSE_REPLAY;
 use synthesis::compose::derivable;
 ghost use mathlib.Core.Path.{_≡_};
 ghost use Prim.Native.Nat.{_≤_};
@@ -52,11 +49,5 @@ pub fn admit(h: Realm, cache: [Entry; 16], ts: u32, e: Entry) -> u8
     if !authenticator_lives(h, e.ta) {
         return REFUSE_AUTHENTICATOR;
     }
-    if find(cache, h.entries, e) {
-        return REFUSE_REPLAY;
-    }
-    if h.entries == PLACES {
-        return REFUSE_CACHE_FULL;
-    }
-    0
+    refusal(cache, h.entries, e)
 }

@@ -19,6 +19,11 @@ use Rattle.decisions.specs.Laws.Refusals.{refusalsOf, allOf, askedFor, T
 use Rattle.decisions.specs.Laws.Took.{Brings, TookAs}
 use Rattle.decisions.specs.Laws.Underivable.{Reached, told, told-back}
 use Rattle.decisions.specs.Laws.Verdict as verdicts
+-- ---- laws passed on
+
+-- "remember then 18 or 19 as in step 5": a delivery that none of 4 to 17 bars is refused with the number that `remember` of b, K
+-- and Ta answers, and taken where it answers none
+pub use Rattle.decisions.specs.Laws.Exact.{remembers, delivered}
 
 -- a step has the refusals that the tables name for it, 4 to 6 and 20, and no other
 pub step-refusals : (t : Tables) (s : Step) {k : ℕ} → decision t s ≡ Refused k → k ∈ allOf (s .step)

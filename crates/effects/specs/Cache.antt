@@ -2,8 +2,8 @@
 -- clock".
 -- Assumes nothing.
 use Prim.Native.Nat.{ℕ, _<_}
-use mathlib.Core.List.{List, [], _∷_, _++_}
-use Rattle.replay.specs.Cache.{kept, entries, becomes}
+use mathlib.Core.List.{List}
+use Rattle.replay.specs.Cache.{appending, sweeping}
 use Rattle.replay.specs.declared.cache.Swept.{Swept}
 use Rattle.replay.specs.declared.entry.Entry.{Entry}
 use Rattle.realm.specs.declared.header.Realm.{Realm}
@@ -12,8 +12,8 @@ use Rattle.decisions.specs.declared.Keeping.the-variants.{Same, Remember, Forge
 
 abbrev pub cacheOf : Realm → List Entry → Keeping → Swept
 cacheOf h c Same = record { places = c; count = h .entries }
-cacheOf h c (Remember e) = becomes c (h .entries) (entries c (h .entries) ++ (e ∷ []))
-cacheOf h c (Forget b) = becomes c (h .entries) (kept (record { b = b; clock = h .clock; la = h .la }) (entries c (h .entries)))
+cacheOf h c (Remember e) = appending c (h .entries) e
+cacheOf h c (Forget b) = sweeping c (h .entries) (record { b = b; clock = h .clock; la = h .la })
 
 -- a place is left for an entry that is remembered
 abbrev pub EntryRoom : ℕ → Keeping → Type 0

@@ -5,4 +5,5 @@ pub mod Kept
 pub mod Numbers
 pub mod Row
 pub mod Cache
+pub mod ThinCalls
 pub mod Laws

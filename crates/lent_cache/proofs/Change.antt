@@ -129,7 +129,7 @@ module _ (c : Call) {M : Type 1} (𝓤 : URA M) where
     ensures = λ _ r _. fact 𝓤 (cacheOutcome (r .answer) (r .places) ≡ c .def (a .0) (a .1 .0) (a .1 .1 .0));
   }
 
-  abbrev lent : Ended
+  abbrev pub lent : Ended
   lent = record {
     signature = record {
       lifetimes = 1;
@@ -140,7 +140,7 @@ module _ (c : Call) {M : Type 1} (𝓤 : URA M) where
     kept = (yes, (yes, (yes, tt)));
   }
 
-  abbrev lent-clauses : Clauses 𝓤 lent
+  abbrev pub lent-clauses : Clauses 𝓤 lent
   lent-clauses κs a = record {
     ghost = Unit {0};
     requires = λ _. emp 𝓤;

@@ -1,3 +1,4 @@
+pub mod Calls
 pub mod Change
 pub mod Copying
 pub mod Loading

@@ -1,8 +1,8 @@
 -- Entries and sixteen places of them, as MIR has them.
 --   R, R-val, R-vals, R-tells, R-makes, R-typed: an entry's type, its MIR value, and its laws
 --   Sixteen, S-mir, S-val, S-vals, S-tells, S-makes, S-typed: the same of `[Entry; 16]`
---   array-in, array-out: a local array in memory is a row of entries, and back: so its elements are read and written by the
---     same steps as those of a slice
+--   array-in, array-out: a local array of n entries in memory is a row of them, and back: so its elements are read and written
+--     by the same steps as those of a slice
 --   entry-out, entry-put: one entry of a row, as a step: it is taken out, and another is put in its place
 -- Assumes `Given` where a model is named, and nothing elsewhere.
 use mathlib.Core.Path.{_≡_, refl}
@@ -86,19 +86,19 @@ module _ {M : Type 1} (𝓤 : URA M) (H : Heap 𝓤) (A : Atoms 𝓤) (W : Given
   pub S-typed : (xs : List Entry) (vs : List Val) → Is Sixteen xs vs → Typed (Sixteen .mir) vs
   S-typed = array-typed R R-typed 16
 
-  pub array-in : (xs : List Entry) (l : ℕ) → Is Sixteen xs (S-vals xs) → ent 𝓤 (H .at fullShare S-mir l 0 (S-val xs)) (sem 𝓤 H A (row R fullShare xs l 0))
+  pub array-in : (n : ℕ) (xs : List Entry) (l : ℕ) → Is (Array R n) xs (S-vals xs) → ent 𝓤 (H .at fullShare (tyArray 𝓔′.mir n) l 0 (S-val xs)) (sem 𝓤 H A (row R fullShare xs l 0))
   unfolding partOf
-  array-in xs l is =
-      qed W (‵ (fat fullShare S-mir l 0 (S-val xs)) ∷ []) ∵ use1 W (‵ (cellAt fullShare (Sixteen .mir) (S-vals xs) l 0)) (W .laws .at-raw fullShare S-mir l 0 (S-val xs)) $
-      owned ! Sixteen (Is Sixteen) S-makes xs (S-vals xs) is $ move ! (1 ∷ 0 ∷ []) $ fjoin ! $ fpack ! (List Val) (λ us. fsep (cellAt fullShare (Sixteen .mir) us l 0) (Sixteen .own xs us)) (S-vals xs) $
-      use1 W (‵ (arr-parts (shares R) 16 .part fullShare xs l 0)) (array-apart 𝓤 H A W R fullShare tt 16 xs l 0) $ fsplit ! $ drop ! $ done !
+  array-in n xs l is =
+      qed W (‵ (fat fullShare (tyArray 𝓔′.mir n) l 0 (S-val xs)) ∷ []) ∵ use1 W (‵ (cellAt fullShare (Array R n .mir) (S-vals xs) l 0)) (W .laws .at-raw fullShare (tyArray 𝓔′.mir n) l 0 (S-val xs)) $
+      owned ! (Array R n) (Is (Array R n)) (array-makes 𝓤 H A W R R-makes n) xs (S-vals xs) is $ move ! (1 ∷ 0 ∷ []) $ fjoin ! $ fpack ! (List Val) (λ us. fsep (cellAt fullShare (Array R n .mir) us l 0) (Array R n .own xs us)) (S-vals xs) $
+      use1 W (‵ (arr-parts (shares R) n .part fullShare xs l 0)) (array-apart 𝓤 H A W R fullShare tt n xs l 0) $ fsplit ! $ drop ! $ done !
 
-  pub array-out : (xs : List Entry) (l : ℕ) → length xs ≡ 16 → ent 𝓤 (sem 𝓤 H A (row R fullShare xs l 0)) (guard 𝓤 (Is Sixteen xs (S-vals xs)) (H .at fullShare S-mir l 0 (S-val xs)))
+  pub array-out : (n : ℕ) (xs : List Entry) (l : ℕ) → length xs ≡ n → ent 𝓤 (sem 𝓤 H A (row R fullShare xs l 0)) (guard 𝓤 (Is (Array R n) xs (S-vals xs)) (H .at fullShare (tyArray 𝓔′.mir n) l 0 (S-val xs)))
   unfolding partOf
-  array-out xs l e =
-      qed W (‵ (row R fullShare xs l 0) ∷ []) ∵ feqI ! ℕ (length xs) 16 e $ fjoin ! $ use1 W (‵ (partAt Sixteen fullShare xs l 0)) (array-whole 𝓤 H A W R fullShare 16 xs l 0) $ fpick ! (λ vs. fsplit ! $
-      spelt ! Sixteen (Is Sixteen) (shows 𝓤 H A Sixteen) S-vals S-tells fullShare xs vs l 0 $ move ! (1 ∷ []) $ peeks ! Sixteen (Is Sixteen) (shows 𝓤 H A Sixteen) xs (S-vals xs) (λ is. drop ! $
-      use1 W (‵ (fat fullShare S-mir l 0 (S-val xs))) (W .laws .raw-at fullShare S-mir l 0 (S-val xs)) $ check ! is $ done !))
+  array-out n xs l e =
+      qed W (‵ (row R fullShare xs l 0) ∷ []) ∵ feqI ! ℕ (length xs) n e $ fjoin ! $ use1 W (‵ (partAt (Array R n) fullShare xs l 0)) (array-whole 𝓤 H A W R fullShare n xs l 0) $ fpick ! (λ vs. fsplit ! $
+      spelt ! (Array R n) (Is (Array R n)) (shows 𝓤 H A (Array R n)) S-vals (array-tells R R-vals R-tells n) fullShare xs vs l 0 $ move ! (1 ∷ []) $ peeks ! (Array R n) (Is (Array R n)) (shows 𝓤 H A (Array R n)) xs (S-vals xs) (λ is. drop ! $
+      use1 W (‵ (fat fullShare (tyArray 𝓔′.mir n) l 0 (S-val xs))) (W .laws .raw-at fullShare (tyArray 𝓔′.mir n) l 0 (S-val xs)) $ check ! is $ done !))
 
 -- one entry of a row, as a step: it is taken out, and another is put in its place
 module _ {M : Type 1} {𝓤 : URA M} {H : Heap 𝓤} {A : Atoms 𝓤} {K : Type 0} {W : Given 𝓤 H A} {Γ : List (Item 𝓤)} {G : Goal 𝓤 H} where

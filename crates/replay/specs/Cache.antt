@@ -62,7 +62,7 @@ written list count xs = padded count xs ++ drop (length (padded count xs)) list
 abbrev pub becomes : List Entry → ℕ → List Entry → Swept
 becomes list count xs = record { places = written list count xs; count = length xs }
 
--- ---- the two calls
+-- ---- the two calls, and steps 5 and 8
 
 -- What a call comes to: "a refusal is its number alone"; an accepted call has the count of entries after it. Either has the list after it.
 pub data CacheOutcome : Type 0 where
@@ -74,24 +74,37 @@ abbrev pub cacheOutcome : Answer → List Entry → CacheOutcome
 cacheOutcome (Count count) list = accepted count list
 cacheOutcome (Refused number) list = refused number list
 
+-- the number of its refusal, and 0 where it is accepted
+abbrev pub numberOf : CacheOutcome → ℕ
+numberOf (refused number list) = number
+numberOf (accepted count list) = 0
+
 -- "10 for a list or count that does not fit": other than sixteen places, or a count above sixteen
 unfoldable pub fits : List Entry → ℕ → Bool
 fits list count = eqb (length list) 16 && leb count 16
 
--- a call after which the entries are `xs`
-abbrev pub holding : List Entry → ℕ → List Entry → CacheOutcome
-holding list count xs = let s = becomes list count xs in accepted (s .count) (s .places)
+-- a call after which the places and their count are these
+abbrev pub done : Swept → CacheOutcome
+done s = accepted (s .count) (s .places)
 
--- "remember then 18 or 19 as in step 5", which "remembers b, K, Ta"
-unfoldable pub remembered : List Entry → ℕ → Entry → CacheOutcome
-remembered list count e =
-    cond (not (fits list count)) (refused 10 list)
-    (cond (present (entries list count) e) (refused 18 list)
-    (cond (eqb count 16) (refused 19 list)
-    (holding list count (entries list count ++ (e ∷ [])))))
+-- 18: "b, K, Ta is in the cache", 19: "the cache holds 16 entries"; 0 for neither
+abbrev pub cacheRefusal : List Entry → ℕ → Entry → ℕ
+cacheRefusal list count e = cond (present (entries list count) e) 18 (cond (eqb count 16) 19 0)
+
+-- step 5 "remembers b, K, Ta": behind the other entries
+abbrev pub appending : List Entry → ℕ → Entry → Swept
+appending list count e = becomes list count (entries list count ++ (e ∷ []))
 
 -- step 8
-unfoldable pub forgotten : List Entry → ℕ → Purge → CacheOutcome
-forgotten list count p =
+abbrev pub sweeping : List Entry → ℕ → Purge → Swept
+sweeping list count p = becomes list count (kept p (entries list count))
+
+-- "both give 10 for a list or count that does not fit, and remember then 18 or 19 as in step 5"
+unfoldable pub remembered : List Entry → ℕ → Entry → CacheOutcome
+remembered list count e =
+    let number = cacheRefusal list count e in
     cond (not (fits list count)) (refused 10 list)
-    (holding list count (kept p (entries list count)))
+    (cond (not (eqb number 0)) (refused number list) (done (appending list count e)))
+
+unfoldable pub forgotten : List Entry → ℕ → Purge → CacheOutcome
+forgotten list count p = cond (not (fits list count)) (refused 10 list) (done (sweeping list count p))

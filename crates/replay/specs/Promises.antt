@@ -1,6 +1,6 @@
 -- What the replay cache promises. The contracts of `src/` say that each call comes to `remembered` or `forgotten`; here is what
 -- that means for the entries (one is appended, or they are filtered) and for every place of the list. Assumes nothing.
-use mathlib.Core.Path.{_≡_, refl, _∙_}
+use mathlib.Core.Path.{_≡_, refl, sym, _∙_}
 use mathlib.Core.Logic.{_↔_}
 use Prim.Native.Nat.{ℕ, _+_, _<_, _≤_}
 use native.Mathlib.Omega.{arith}
@@ -9,14 +9,15 @@ use mathlib.Core.List.{List, [], _∷_, _++_, List·Memᴰ, List·Memᴰ·head, 
 use lib.Dec.{eqb}
 use lib.ListN.{length, getD, drop}
 use lib.Seq.{length-take-le}
+use borrow.Author.Tests.{eqb-true}
 use Rattle.replay.specs.declared.entry.Entry.{Entry}
 use Rattle.replay.specs.declared.entry.Purge.{Purge}
 use Rattle.replay.specs.declared.entry.Answer.{Answer}
 use Rattle.replay.specs.declared.entry.Answer.the-variants.{Count, Refused}
-use Rattle.replay.specs.Cache.{empty, present, stays, kept, entries, CacheOutcome, refused, accepted, fits, remembered, forgotten}
+use Rattle.replay.specs.Cache.{empty, present, stays, kept, entries, CacheOutcome, refused, accepted, numberOf, done, cacheRefusal, appending, fits, remembered, forgotten}
 use Rattle.replay.specs.Cache.Entries.{present-of, of-present, filter-length, filter-of, of-filter, goes, goes-if}
 use Rattle.replay.specs.Cache.Places.{append-length, held-count, held-entries, held-length, held-freed, held-past}
-use Rattle.replay.specs.Cache.Calls.{fits-is, fits-list, fits-count, remembered-back, remembered-kept, remembered-18, forgotten-back, forgotten-kept}
+use Rattle.replay.specs.Cache.Calls.{fits-is, fits-list, fits-count, remembered-back, remembered-kept, forgotten-back, forgotten-kept}
 
 -- An accepted `remember`: the entry was absent and a place was left; the entry is appended, and the places behind it keep their values.
 pub record Remembers (list : List Entry) (count : ℕ) (e : Entry) (n : ℕ) (after : List Entry) : Type 0 where
@@ -35,6 +36,18 @@ pub record Forgets (list : List Entry) (count : ℕ) (p : Purge) (n : ℕ) (afte
   pub freed : (i : ℕ) → n ≤ i → i < count → getD after i empty ≡ empty
   pub behind : drop count after ≡ drop count list
   pub fitting : fits after n ≡ true
+
+-- "remember then 18 or 19 as in step 5": the same number
+pub remember-number : (list : List Entry) (count : ℕ) (e : Entry) → fits list count ≡ true → numberOf (remembered list count e) ≡ cacheRefusal list count e
+unfolding remembered
+remember-number list count e f = rw f (on (eqb number 0) refl)
+  where
+    number : ℕ
+    number = cacheRefusal list count e
+
+    on : (none : Bool) → eqb number 0 ≡ none → numberOf (cond (not none) (refused number list) (done (appending list count e))) ≡ number
+    on true z = sym (eqb-true number 0 z)
+    on false z = refl
 
 module _ (list : List Entry) (count : ℕ) (e : Entry) (n : ℕ) (after : List Entry) where
   -- refused: every place keeps its value
@@ -62,7 +75,8 @@ module _ (list : List Entry) (count : ℕ) (e : Entry) (n : ℕ) (after : List E
     remember-found = rw (remember-accepted .appended) (present-of e (entries list count ++ (e ∷ [])) (Memᴰ·append-right (entries list count) (List·Memᴰ·head refl)))
 
     pub remember-again : remembered after n e ≡ refused 18 after
-    remember-again = remembered-18 after n e (remember-accepted .fitting) remember-found
+    unfolding remembered
+    remember-again = rw (remember-accepted .fitting, remember-found)
 
 module _ (list : List Entry) (count : ℕ) (p : Purge) (n : ℕ) (after : List Entry) where
   -- refused: every place keeps its value
@@ -110,7 +124,7 @@ module _ (list other : List Entry) (count : ℕ) (size : length list ≡ length 
 
   pub remember-unread : (e : Entry) → answered (remembered list count e) ≡ answered (remembered other count e)
   unfolding fits remembered
-  remember-unread e = rw (size, same-entries) (tested (not (fits other count)) 10 _ _ (tested (present (entries other count) e) 18 _ _ (tested (eqb count 16) 19 _ _ refl)))
+  remember-unread e = let number = cacheRefusal other count e in rw (size, same-entries) (tested (not (fits other count)) 10 _ _ (tested (not (eqb number 0)) number _ _ refl))
 
   pub forget-unread : (p : Purge) → answered (forgotten list count p) ≡ answered (forgotten other count p)
   unfolding fits forgotten

@@ -1,9 +1,8 @@
 // The replay cache by value: its sixteen places and the count, side by side. `remember` and `forget` are the whole calls;
-// `find`, `append` and `sweep` are their parts, for a caller that has looked at the refusals itself.
+// `refusal`, `append` and `sweep` are their parts, which steps 5 and 8 have in common with them.
 ghost use mathlib.Core.Path.{_≡_};
-ghost use mathlib.Core.List.{[], _∷_, _++_};
 ghost use Prim.Native.Nat.{_<_, _≤_};
-ghost use Rattle.replay.specs.Cache.{same, present, stays, kept, entries, becomes, refused, cacheOutcome, remembered, forgotten};
+ghost use Rattle.replay.specs.Cache.{same, present, stays, entries, cacheRefusal, appending, sweeping, refused, cacheOutcome, remembered, forgotten};
 use crate::entry::Answer;
 use crate::entry::EMPTY;
 use crate::entry::Entry;
@@ -38,7 +37,7 @@ fn equal(x: Entry, y: Entry) -> bool
 }
 
 // Whether an entry of the cache is `e`.
-pub fn find(places: [Entry; PLACES], count: usize, e: Entry) -> bool
+fn find(places: [Entry; PLACES], count: usize, e: Entry) -> bool
     requires { ⌜ count ≤ 16 ⌝ }
     ensures { λ r. ⌜ r ≡ present (entries places count) e ⌝ }
 {
@@ -53,6 +52,20 @@ pub fn find(places: [Entry; PLACES], count: usize, e: Entry) -> bool
     false
 }
 
+// 0 where `e` can be put behind the entries, or else the number of the refusal.
+pub fn refusal(places: [Entry; PLACES], count: usize, e: Entry) -> u8
+    requires { ⌜ count ≤ 16 ⌝ }
+    ensures { λ r. ⌜ r ≡ cacheRefusal places count e ⌝ }
+{
+    if find(places, count, e) {
+        return REFUSE_REPLAY;
+    }
+    if count == PLACES {
+        return REFUSE_CACHE_FULL;
+    }
+    0
+}
+
 // Whether `x` is left when `p` is done: it is another principal's, or its life is not over.
 fn survives(x: Entry, p: Purge) -> bool
     ensures { λ r. ⌜ r ≡ stays p x ⌝ }
@@ -63,7 +76,7 @@ fn survives(x: Entry, p: Purge) -> bool
 // `e` behind the entries.
 pub fn append(places: [Entry; PLACES], count: usize, e: Entry) -> Swept
     requires { ⌜ count < 16 ⌝ }
-    ensures { λ r. ⌜ r ≡ becomes places count (entries places count ++ (e ∷ [])) ⌝ }
+    ensures { λ r. ⌜ r ≡ appending places count e ⌝ }
 {
     let mut next = places;
     next[count] = e;
@@ -76,7 +89,7 @@ pub fn append(places: [Entry; PLACES], count: usize, e: Entry) -> Swept
 // One pass: a place that is read becomes empty, and an entry that survives moves to the front.
 pub fn sweep(places: [Entry; PLACES], count: usize, p: Purge) -> Swept
     requires { ⌜ count ≤ 16 ⌝ }
-    ensures { λ r. ⌜ r ≡ becomes places count (kept p (entries places count)) ⌝ }
+    ensures { λ r. ⌜ r ≡ sweeping places count p ⌝ }
 {
     let mut next = places;
     let mut left = 0;
@@ -112,11 +125,9 @@ pub fn remember(places: [Entry; PLACES], count: usize, e: Entry) -> After
     if PLACES < count {
         return refuse(places, REFUSE_TABLES);
     }
-    if find(places, count, e) {
-        return refuse(places, REFUSE_REPLAY);
-    }
-    if count == PLACES {
-        return refuse(places, REFUSE_CACHE_FULL);
+    let number = refusal(places, count, e);
+    if number != 0 {
+        return refuse(places, number);
     }
     let appended = append(places, count, e);
     let next = appended.places;

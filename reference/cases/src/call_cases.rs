@@ -1,20 +1,23 @@
 //! The cases of `call_cases`: document 01's cases F and A to D as walks, every
-//! refusal of a call, 10 in each of its causes, and every table filled to its
-//! last place. Places past the counts hold what is no term, run or entry.
+//! refusal of a call, 10 in each of its causes, every table filled to its last
+//! place, and the two calls on the replay cache alone. Places past the counts
+//! hold what is no term, run or entry.
 
 mod broken;
 mod full;
 mod refused;
+mod thin;
 mod walks;
 
 use reference::file::Header;
 use reference::tables::ROW;
 
-use crate::calls::{record, World};
+use crate::calls::{record, Lent, World};
 use crate::line::Line;
 use crate::Script;
 
-/// A line that calls: A with kind, L and R, or S with step, run, a, b, m and t.
+/// A line that calls: A with kind, L and R, S with step, run, a, b, m and t, M
+/// with b, K and Ta, or F with b, clock and La.
 #[derive(Clone, Copy)]
 struct Call(char, [u32; 6]);
 
@@ -59,6 +62,16 @@ fn leaks(run: u32) -> Call {
 /// Step 10.
 fn asks(m: u32) -> Call {
     step(10, 0, 0, 0, m, 0)
+}
+
+/// `remember`, alone.
+fn remembers(b: u32, k: u32, ta: u32) -> Call {
+    Call('M', [b, k, ta, 0, 0, 0])
+}
+
+/// `forget`, alone.
+fn purges(b: u32, clock: u32, life: u32) -> Call {
+    Call('F', [b, clock, life, 0, 0, 0])
 }
 
 /// The world after a call that is accepted.
@@ -144,6 +157,10 @@ impl Script<World> {
     fn walk(&mut self, name: &str, header: Header, calls: &[Call]) {
         self.set(&World::default());
         self.open(&format!("{name}, a new realm"), header);
+        self.calls(name, calls);
+    }
+
+    fn calls(&mut self, name: &str, calls: &[Call]) {
         for (number, call) in calls.iter().enumerate() {
             self.call(&format!("{name}, {}: {}", number + 1, told(*call)), *call);
         }
@@ -155,13 +172,15 @@ fn lines_between(now: &World, wanted: &World) -> Vec<Line> {
     let (old, new) = (&now.tables, &wanted.tables);
     let mut lines = Vec::new();
     let mut set = |letter: char, numbers: &[u32]| lines.push(Line::new(letter, numbers));
-    if (old.header, old.clock) != (new.header, new.clock) {
-        let Header { principals, flags, ticket_life, authenticator_life } = new.header;
+    let (header, counts, lent) = (new.header, new.counts, wanted.lent);
+    if (old.header, old.clock, now.lent.cache) != (header, new.clock, lent.cache) {
+        let Header { principals, flags, ticket_life, authenticator_life } = header;
         let lives = [ticket_life, authenticator_life];
-        set('H', &[principals.into(), flags.into(), lives[0], lives[1], new.clock]);
+        let places = lent.cache as u32;
+        set('H', &[principals.into(), flags.into(), lives[0], lives[1], new.clock, places]);
     }
-    if (old.counts, now.lent) != (new.counts, wanted.lent) {
-        let (counts, lent) = (new.counts, wanted.lent);
+    let others = |lent: Lent| (lent.terms, lent.runs, lent.wire);
+    if (old.counts, others(now.lent)) != (counts, others(lent)) {
         let numbers = [counts.terms, counts.runs, counts.entries, lent.terms, lent.runs, lent.wire];
         set('C', &numbers.map(|number| number as u32));
     }
@@ -190,8 +209,11 @@ fn changed<T: Copy + PartialEq>(old: &[T], new: &[T]) -> Vec<(u32, T)> {
 /// A call in words.
 fn told(call: Call) -> String {
     let Call(letter, [number, run, a, b, m, t]) = call;
-    if letter == 'A' {
-        return format!("term {number} {run} {a}");
+    match letter {
+        'A' => return format!("term {number} {run} {a}"),
+        'M' => return format!("remember {number} {run} {a}"),
+        'F' => return format!("forget {number} at {run}, La {a}"),
+        _ => (),
     }
     match number {
         1 | 2 => format!("step {number}, {a} and {b}"),
@@ -222,5 +244,10 @@ pub fn script() -> Script<World> {
     full::all_runs(&mut script);
     full::all_terms(&mut script);
     full::all_entries(&mut script);
+    thin::lives(&mut script);
+    thin::sixteen(&mut script);
+    thin::others_stay(&mut script);
+    thin::behind_the_count(&mut script);
+    thin::misfits(&mut script);
     script
 }

@@ -1,7 +1,8 @@
 //! The program `call_cases`: calls on lent tables. Its lines, by their letters:
 //!
 //! - N: everything as it was at first
-//! - H: n, flags, Ls, La and the clock of the realm
+//! - H: n, flags, Ls, La and the clock of the realm; how many places of the cache
+//!   are lent
 //! - C: how many terms, runs and entries there are; how many places of the term
 //!   table, words of the table of runs and words of the wire are lent
 //! - T: a place of the term table; kind, L and R
@@ -11,15 +12,19 @@
 //! - O: n, flags, Ls, La; opens a realm, which the calls then have
 //! - A: kind, L, R; adds a term
 //! - S: step, run, a, b, m, t; takes a step
+//! - M: b, K, Ta; remembers an entry, by the call of that name alone
+//! - F: b, clock, La; forgets b's entries, likewise
 //!
-//! O, A and S write the answer, and whatever has changed.
+//! The last five write the answer, and whatever has changed.
 
 use std::fmt::Write;
 
 use reference::file::{Header, Record, StepRecord, TermRecord};
 use reference::realm::{Answer, MAX_ENTRIES};
 use reference::refusal::Refusal;
-use reference::tables::{Counts, Place, Tables, ROW, RUN_WORDS, TERM_PLACES, WIRE_WORDS};
+use reference::tables::{
+    forget, remember, Counts, Place, Tables, ROW, RUN_WORDS, TERM_PLACES, WIRE_WORDS,
+};
 
 use crate::line::Line;
 use crate::Program;
@@ -35,9 +40,11 @@ pub struct Lent {
     pub terms: usize,
     pub runs: usize,
     pub wire: usize,
+    pub cache: usize,
 }
 
-pub const FULL: Lent = Lent { terms: TERM_PLACES, runs: RUN_WORDS, wire: WIRE_WORDS };
+pub const FULL: Lent =
+    Lent { terms: TERM_PLACES, runs: RUN_WORDS, wire: WIRE_WORDS, cache: MAX_ENTRIES };
 
 /// The tables of the program, each with a place more than it should have.
 #[derive(Clone, Debug, PartialEq, Eq)]
@@ -57,7 +64,7 @@ impl Default for World {
                 terms: vec![NO_TERM; TERM_PLACES + 1],
                 runs: vec![NO_RUN; RUN_WORDS + 1],
                 wire: vec![0; WIRE_WORDS + 1],
-                cache: [NO_ENTRY; MAX_ENTRIES],
+                cache: vec![NO_ENTRY; MAX_ENTRIES + 1],
             },
             lent: FULL,
         }
@@ -71,12 +78,27 @@ impl World {
         lent.terms.truncate(self.lent.terms);
         lent.runs.truncate(self.lent.runs);
         lent.wire.truncate(self.lent.wire);
+        lent.cache.truncate(self.lent.cache);
         let answer = lent.call(record);
         lent.terms.extend(&self.tables.terms[self.lent.terms..]);
         lent.runs.extend(&self.tables.runs[self.lent.runs..]);
         lent.wire.extend(&self.tables.wire[self.lent.wire..]);
+        lent.cache.extend(&self.tables.cache[self.lent.cache..]);
         self.tables = lent;
         answer
+    }
+
+    /// `remember` or `forget` on the places that are lent.
+    fn thin_call(&mut self, letter: char, numbers: [u32; 6]) -> Result<Answer, Refusal> {
+        let [b, x, y, ..] = numbers;
+        let list = &mut self.tables.cache[..self.lent.cache];
+        let entries = &mut self.tables.counts.entries;
+        *entries = if letter == 'M' {
+            remember(list, *entries, Place { b: b as u16, k: x as u16, ta: y })?
+        } else {
+            forget(list, *entries, b as u16, x, y)?
+        };
+        Ok(Answer::Done)
     }
 
     /// "A new hall has clock 0 and empty tables."
@@ -96,10 +118,12 @@ impl World {
             'H' => {
                 tables.header = header(a, b, c, d);
                 tables.clock = e;
+                self.lent.cache = f as usize;
             }
             'C' => {
                 tables.counts = Counts { terms: x, runs: y, entries: z };
-                self.lent = Lent { terms: d as usize, runs: e as usize, wire: f as usize };
+                let (terms, runs, wire) = (d as usize, e as usize, f as usize);
+                self.lent = Lent { terms, runs, wire, ..self.lent };
             }
             'T' => tables.terms[x] = word(b, c, d),
             'R' => tables.runs[x * ROW + y] = c,
@@ -146,6 +170,7 @@ impl Program for World {
                 self.open(header(n, flags, ls, la)).map(|()| Answer::Done)
             }
             'A' | 'S' => self.call(&record(letter, numbers)),
+            'M' | 'F' => self.thin_call(letter, numbers),
             _ => return self.set(letter, numbers),
         };
         let _ = match answer {
@@ -161,11 +186,7 @@ impl Program for World {
 
 /// Every field and every place that has changed, with its value.
 fn changes(before: &Tables, after: &Tables, output: &mut String) {
-    for ((name, old), (_, new)) in fields(before).into_iter().zip(fields(after)) {
-        if old != new {
-            let _ = write!(output, ", {name} {new}");
-        }
-    }
+    word_changes("field", &fields(before), &fields(after), output);
     word_changes("term", &before.terms, &after.terms, output);
     word_changes("wire", &before.wire, &after.wire, output);
     for (place, new) in after.runs.iter().enumerate() {
@@ -190,16 +211,17 @@ pub fn word_changes(name: &str, before: &[u64], after: &[u64], output: &mut Stri
     }
 }
 
-fn fields(tables: &Tables) -> [(&'static str, u64); 8] {
+/// n, flags, Ls, La, the clock and the three counts.
+fn fields(tables: &Tables) -> [u64; 8] {
     let Tables { header, clock, counts, .. } = tables;
     [
-        ("n", header.principals.into()),
-        ("flags", header.flags.into()),
-        ("Ls", header.ticket_life.into()),
-        ("La", header.authenticator_life.into()),
-        ("clock", (*clock).into()),
-        ("terms", counts.terms as u64),
-        ("runs", counts.runs as u64),
-        ("entries", counts.entries as u64),
+        header.principals.into(),
+        header.flags.into(),
+        header.ticket_life.into(),
+        header.authenticator_life.into(),
+        (*clock).into(),
+        counts.terms as u64,
+        counts.runs as u64,
+        counts.entries as u64,
     ]
 }

@@ -48,7 +48,7 @@ impl Questions {
             terms: self.terms[..self.lent.places].to_vec(),
             runs: vec![0; RUN_WORDS],
             wire: self.wire[..self.lent.words].to_vec(),
-            cache: [Place::default(); MAX_ENTRIES],
+            cache: vec![Place::default(); MAX_ENTRIES],
         };
         let asks = StepRecord { step: 10, message: term as u16, ..StepRecord::default() };
         match tables.call(&Record::Step(asks)) {

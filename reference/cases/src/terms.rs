@@ -60,7 +60,7 @@ impl Table {
             terms: self.terms[..self.places].to_vec(),
             runs: vec![0; RUN_WORDS],
             wire: vec![0; WIRE_WORDS],
-            cache: [Place::default(); MAX_ENTRIES],
+            cache: vec![Place::default(); MAX_ENTRIES],
         }
     }
 

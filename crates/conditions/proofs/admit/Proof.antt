@@ -1,10 +1,9 @@
 -- `conditions::admit` meets its contract: by the law for each way out. Assumes nothing.
-use mathlib.Core.Bool.{true, false}
+use mathlib.Core.Bool.{true}
 use mathlib.Core.Path.{_≡_, sym, _∙_}
 use borrow.Author.Tests.{not-true, not-false}
-use Rattle.replay.specs.Cache.{present, entries}
 use Rattle.conditions.specs.Conditions.{ticketLives, authenticatorLives}
-use Rattle.conditions.specs.Laws.{ticket-over, authenticator-over, replayed, cache-full, admitted}
+use Rattle.conditions.specs.Laws.{ticket-over, authenticator-over, by-cache}
 use borrow.Author.Needs.{needs}
 use Rattle.conditions.proofs.admit.Statement.{statement}
 use Rattle.conditions.proofs.admit.Tie as tie
@@ -16,9 +15,6 @@ ticket c = sym (c .before .ticket-lives .ensures) ∙ not-false _ (c .if1 .left)
 
 authenticator : (c : tie.Else2) → let a = c .before .before .before .before .args in authenticatorLives (a .h) (a .e .ta) ≡ true
 authenticator c = sym (c .before .authenticator-lives .ensures) ∙ not-false _ (c .if2 .left)
-
-new : (c : tie.Else3) → let a = c .before .before .before .before .before .before .args in present (entries (a .cache) (a .h .entries)) (a .e) ≡ false
-new c = sym (c .before .find .ensures) ∙ c .if3 .left
 
 -- ---- the needs
 
@@ -37,36 +33,14 @@ returns-2 c =
     let a = e .before .before .args in
     authenticator-over (a .h) (a .cache) (a .ts) (a .e) (ticket e) (sym (c .before .authenticator-lives .ensures) ∙ not-true _ (c .if2 .taken))
 
-find-requires : tie.Need-find-requires
-find-requires c κs = search needs
+refusal-requires : tie.Need-refusal-requires
+refusal-requires c κs = search needs
 
 returns-3 : tie.Need-returns-3
 returns-3 c =
-    let e = c .before .before in
+    let e = c .before in
     let a = e .before .before .before .before .args in
-    replayed (a .h) (a .cache) (a .ts) (a .e) (ticket (e .before .before)) (authenticator e) (sym (c .before .find .ensures) ∙ c .if3 .taken)
-
-returns-4 : tie.Need-returns-4
-returns-4 c =
-    let e = c .before .before in
-    let a = e .before .before .before .before .before .before .args in
-    cache-full (a .h) (a .cache) (a .ts) (a .e) (ticket (e .before .before .before .before)) (authenticator (e .before .before)) (new e) (c .if4 .taken)
-
-returns-5 : tie.Need-returns-5
-returns-5 c =
-    let e = c .before .before in
-    let a = e .before .before .before .before .before .before .args in
-    admitted (a .h) (a .cache) (a .ts) (a .e) (ticket (e .before .before .before .before)) (authenticator (e .before .before)) (new e) (c .if4 .left)
+    c .refusal .ensures ∙ by-cache (a .h) (a .cache) (a .ts) (a .e) (ticket (e .before .before)) (authenticator e)
 
 pub admit-spec : {M : Type 1} → statement M
-admit-spec =
-    tie.close
-    (tie.spec
-    ticket-lives-requires
-    returns
-    authenticator-lives-requires
-    returns-2
-    find-requires
-    returns-3
-    returns-4
-    returns-5)
+admit-spec = tie.close (tie.spec ticket-lives-requires returns authenticator-lives-requires returns-2 refusal-requires returns-3)

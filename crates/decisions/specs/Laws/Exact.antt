@@ -16,6 +16,8 @@ use Rattle.forms.specs.Promises.{is-request, is-reply, is-confirmation, is-deli
 use Rattle.runs.specs.Lent.{PrincipalsFit, principalsFit}
 use Rattle.runs.specs.Promises.{principals-decided}
 use Rattle.exchange.specs.declared.call.Call.the-variants as calls
+use Rattle.exchange.specs.declared.run.Role.the-variants.{Responder}
+use Rattle.exchange.specs.declared.run.Stage.the-variants.{Opened}
 use Rattle.exchange.specs.Needs.{needTable}
 use Rattle.kerberos.specs.Messages.{parallel, request, reply, ticket, authenticator, confirmation}
 use Rattle.kerberos.specs.Log.{Event}
@@ -26,19 +28,24 @@ use Rattle.realm.specs.declared.input.Uses.{Uses}
 use Rattle.realm.specs.Input.{usesTable, usesOf, unusedZero, inRange, inputRefusal, passed-back}
 use Rattle.realm.specs.Tables.{Tables, Together}
 use Rattle.realm.specs.Fields.{callOf}
-use Rattle.conditions.specs.Conditions.{derivableAt, ticketLives, admission}
-use Rattle.conditions.specs.Promises.{admission-exact}
+use Rattle.replay.specs.Cache.{numberOf, remembered}
+use Rattle.replay.specs.Cache.{fits as fitting}
+use Rattle.replay.specs.Cache.Calls.{fits-is, refusal-none}
+use Rattle.replay.specs.Promises.{remember-number}
+use Rattle.replay.specs.declared.entry.Entry.{Entry}
+use Rattle.conditions.specs.Conditions.{derivableAt, ticketLives}
+use Rattle.conditions.specs.Promises.{admission-remembers}
 use Rattle.decisions.specs.declared.Effect.{Effect}
 use Rattle.decisions.specs.declared.Verdict.{Verdict}
 use Rattle.decisions.specs.declared.Verdict.the-variants.{Takes}
 use Rattle.decisions.specs.Effects.{issuing, authenticating, accepting, finishing}
 use Rattle.decisions.specs.Decision.{need, onRequest, issues, onReply, authenticates, onDelivery, takes, onConfirmation, finishes}
 use Rattle.decisions.specs.Decision.{opensRun, ticks, queries, stepOf, decided}
-use Rattle.decisions.specs.Laws.Took.{rowAt, Brings, Admits, Took, took1, took2, took3, took4, took5, took6, took7, took8, took9, took10}
+use Rattle.decisions.specs.Laws.Took.{rowAt, Meets, Brings, Admits, Took, took1, took2, took3, took4, took5, took6, took7, took8, took9, took10}
 
 -- ---- conditions that are met
 
-met : (ok : Bool) (number : ℕ) (v : Verdict) {x : Effect} → ok ≡ true → v ≡ Takes x → need ok number v ≡ Takes x
+met : (ok : Bool) (number : ℕ) (v : Verdict) {w : Verdict} → ok ≡ true → v ≡ w → need ok number v ≡ w
 met ok number v p q = rw p q
 
 answers : {P : Type 0} (answer : Bool) → Decides answer P → P → answer ≡ true
@@ -53,7 +60,7 @@ twice x y = rw (equal x, equal y)
 
 -- ---- the fields
 
-abbrev fields : (step r a b m now : ℕ) → Step
+abbrev pub fields : (step r a b m now : ℕ) → Step
 fields step r a b m now = record { step = step; run = r; a = a; b = b; m = m; t = now }
 
 -- each field that is used is in range, by its test
@@ -72,8 +79,8 @@ ranges h u s x = all _ _ _ _ (x .run) (x .principals) (x .b) (x .m)
 
 module _ (t : Tables) (fits : Together t) where
   -- 4, 5 and 6 do not bar it: its row decides
-  decided-by : (s : Step) {x : Effect} → 1 ≤ s .step → s .step ≤ 10 → unusedZero (usesOf (s .step)) s ≡ true → Ranges (t .realm) (usesOf (s .step)) s
-      → stepOf t s ≡ Takes x → decided t s ≡ Takes x
+  decided-by : (s : Step) {v : Verdict} → 1 ≤ s .step → s .step ≤ 10 → unusedZero (usesOf (s .step)) s ≡ true → Ranges (t .realm) (usesOf (s .step)) s
+      → stepOf t s ≡ v → decided t s ≡ v
   unfolding decided
   decided-by s low high unused range q =
       let p = passed-back (t .realm) s (record { low = low; high = high; unused = unused; range = ranges (t .realm) (usesOf (s .step)) s range }) in
@@ -85,13 +92,18 @@ module _ (t : Tables) (fits : Together t) where
       answers (derivableAt (t .realm) (t .terms) (t .wire) m) (function-exact (t .realm .flags) (fits .terms-hold) (fits .wire-words) m (k .below))
       (subst (Derives (t .realm .n) (t .realm .flags) (Known (t .terms) (t .realm .terms) (t .wire))) (sym (k .is)) (k .derivable))
 
-  -- nor do 16 to 19
-  admitted : (ts b k ta : ℕ) → Admits t ts b k ta → admission (t .realm) (t .cache) ts (record { b = b; k = k; ta = ta }) ≡ 0
+  -- what `remember` of b, K, Ta answers, as a number: 0 where 18 and 19 do not bar it
+  abbrev pub remembers : (b k ta : ℕ) → ℕ
+  remembers b k ta = numberOf (remembered (t .cache) (t .realm .entries) (record { b = b; k = k; ta = ta }))
+
+  cache-fits : fitting (t .cache) (t .realm .entries) ≡ true
+  cache-fits = fits-is (t .cache) (t .realm .entries) (fits .places) (fits .entries-most)
+
+  admitted : (ts b k ta : ℕ) → Admits t ts b k ta → remembers b k ta ≡ 0
   admitted ts b k ta d =
-      let h = t .realm in
-      let room : h .entries < 16 = d .room in
-      admission-exact h (t .cache) ts (record { b = b; k = k; ta = ta }) .1
-      (lt-ltb (h .clock) (ts + h .ls) (d .ticket-lives), lt-ltb (h .clock) (ta + h .la) (d .authenticator-lives), d .absent, λ e. omega arith)
+      let e : Entry = record { b = b; k = k; ta = ta } in
+      let room : t .realm .entries < 16 = d .room in
+      remember-number (t .cache) (t .realm .entries) e cache-fits ∙ sym (refusal-none (t .cache) (t .realm .entries) e (d .absent) (λ z. omega arith))
 
   -- ---- the steps that take a message
 
@@ -118,16 +130,17 @@ module _ (t : Tables) (fits : Together t) where
       own b a = rw (equal b, equal r, equal a)
 
   takes-on : (r m k ts ta : ℕ) → Brings t m (pair (ticket k (rowAt t r .a) ts (rowAt t r .b)) (authenticator (rowAt t r .a) ta k))
-      → Admits t ts (rowAt t r .b) k ta
-      → takes (t .realm) (t .terms) (t .wire) (t .cache) r (rowAt t r) m ≡ Takes (accepting (t .realm .clock) r (rowAt t r .a) (rowAt t r .b) k ts ta)
+      → t .realm .clock < ts + t .realm .ls → t .realm .clock < ta + t .realm .la → let number = remembers (rowAt t r .b) k ta in
+      takes (t .realm) (t .terms) (t .wire) (t .cache) r (rowAt t r) m ≡ need (eqb number 0) number (Takes (accepting (t .realm .clock) r (rowAt t r .a) (rowAt t r .b) k ts ta))
   unfolding takes
-  takes-on r m k ts ta d l =
-      let number = admission (t .realm) (t .cache) ts (record { b = rowAt t r .b; k = k; ta = ta }) in
+  takes-on r m k ts ta d l o =
+      let e : Entry = record { b = rowAt t r .b; k = k; ta = ta } in
       ap (onDelivery (t .realm) (t .terms) (t .wire) (t .cache) r (rowAt t r) m)
       (is-delivery (messageAt (t .terms) m) k (rowAt t r .a) ts (rowAt t r .b) ta .1 (d .is))
       ∙ met (eqb (rowAt t r .a) (rowAt t r .a) && eqb (rowAt t r .b) (rowAt t r .b)) _ _ (twice (rowAt t r .a) (rowAt t r .b))
       (met (derivableAt (t .realm) (t .terms) (t .wire) m) _ _ (derivable m d)
-      (met (eqb number 0) number _ (eq-eqb number 0 (admitted ts (rowAt t r .b) k ta l)) refl))
+      (ap (λ (n : ℕ). need (eqb n 0) n (Takes (accepting (t .realm .clock) r (rowAt t r .a) (rowAt t r .b) k ts ta)))
+      (admission-remembers (t .realm) (t .cache) ts e (lt-ltb _ _ l) (lt-ltb _ _ o) cache-fits)))
 
   finishes-on : (r m : ℕ) → Brings t m (confirmation (rowAt t r .ta) (rowAt t r .k)) → t .realm .clock < rowAt t r .ts + t .realm .ls
       → finishes (t .realm) (t .terms) (t .wire) r (rowAt t r) m
@@ -153,6 +166,15 @@ module _ (t : Tables) (fits : Together t) where
   unfolding usesTable
   takes-in step r m i j = record { run = lt-ltb r (t .realm .runs) i; principals = refl; b = refl; m = lt-ltb m (t .realm .terms) j }
 
+  -- step 5 past 17: it is refused with the number that `remember` answers, or else taken
+  pub delivered : (r m k ts ta : ℕ) → Meets t r Responder Opened → Brings t m (pair (ticket k (rowAt t r .a) ts (rowAt t r .b)) (authenticator (rowAt t r .a) ta k))
+      → t .realm .clock < ts + t .realm .ls → t .realm .clock < ta + t .realm .la → let number = remembers (rowAt t r .b) k ta in
+      decided t (fields 5 r 0 0 m 0) ≡ need (eqb number 0) number (Takes (accepting (t .realm .clock) r (rowAt t r .a) (rowAt t r .b) k ts ta))
+  unfolding stepOf usesTable needTable
+  delivered r m k ts ta w d l o =
+      decided-by (fields 5 r 0 0 m 0) (omega arith) (omega arith) refl (takes-in 5 r m (w .below) (d .below))
+      (met _ 11 _ (w .at) (takes-on r m k ts ta d l o))
+
   took-by : {step r a b m now : ℕ} {e : Event} {x : Effect} → Took t (calls.Step step r a b m now) e x → decided t (fields step r a b m now) ≡ Takes x
   unfolding stepOf usesTable needTable opensRun ticks queries
   took-by (took1 {a} {b} p room) =
@@ -167,8 +189,7 @@ module _ (t : Tables) (fits : Together t) where
       decided-by (fields 4 r 0 0 m 0) (omega arith) (omega arith) refl (takes-in 4 r m (w .below) (d .below))
       (met _ _ _ (w .at) (authenticates-on r m k ts d l))
   took-by (took5 {r} {m} {k} {ts} {ta} w d l) =
-      decided-by (fields 5 r 0 0 m 0) (omega arith) (omega arith) refl (takes-in 5 r m (w .below) (d .below))
-      (met _ _ _ (w .at) (takes-on r m k ts ta d l))
+      delivered r m k ts ta w d (l .ticket-lives) (l .authenticator-lives) ∙ met _ _ _ (eq-eqb (remembers (rowAt t r .b) k ta) 0 (admitted ts (rowAt t r .b) k ta l)) refl
   took-by (took6 {r} {m} w d l) =
       decided-by (fields 6 r 0 0 m 0) (omega arith) (omega arith) refl (takes-in 6 r m (w .below) (d .below))
       (met _ _ _ (w .at) (finishes-on r m d l))

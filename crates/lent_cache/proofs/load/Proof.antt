@@ -137,7 +137,7 @@ module _ {M : Type 1} (𝓤 : URA M) (H : Heap 𝓤) (A : Atoms 𝓤) (W : Given
         again ! Nearer At c (more c sixteen l) (add-one-dec 16 (c .i) l))))
         (λ over. exec ! C Λ En code-mir.t-5 (atRet En Post) $
         -- places
-        move ! (1 ∷ []) $ use1 W (given (Is Sixteen (c .to) (S-vals (c .to))) (‵ (fat fullShare S-mir l₂ 0 (S-val (c .to))))) (array-out 𝓤 H A W (c .to) l₂ (c .size)) $ learn ! (λ is.
+        move ! (1 ∷ []) $ use1 W (given (Is Sixteen (c .to) (S-vals (c .to))) (‵ (fat fullShare S-mir l₂ 0 (S-val (c .to))))) (array-out 𝓤 H A W 16 (c .to) l₂ (c .size)) $ learn ! (λ is.
         assigns ! (of-opd ! (load ! (from ! (stop !)) (look ! 0 refl))) (from ! (stop !)) (init ! 23 refl (S-typed 𝓤 H A W (c .to) _ is .0)) $
         move ! (1 ∷ 25 ∷ []) $ shuts-slice ! tt R q′ ys b o $
         -- [the token; _2; _11; …; the fractured borrow; res]
@@ -159,7 +159,7 @@ module _ {M : Type 1} (𝓤 : URA M) (H : Heap 𝓤) (A : Atoms 𝓤) (W : Given
       assigns ! (agg ! (and-then ! (lit ! tt) (and-then ! (lit ! tt) (and-then ! (lit ! tt) (no-more !))))) (from ! (stop !)) (init ! 14 refl (R-typed 𝓤 H A W empty _ empty-is .0)) $
       assigns ! (rep ! 16 (load ! (from ! (stop !)) (look ! 14 refl))) (from ! (stop !)) (init ! 18 refl (S-typed 𝓤 H A W (replicate 16 empty) _ empties-are .0)) $
       assigns ! (of-opd ! (lit ! tt)) (from ! (stop !)) (init ! 16 refl (tt, record { fits = lit< tt })) $
-      move ! (18 ∷ []) $ use1 W (‵ (row R fullShare (replicate 16 empty) l₂ 0)) (array-in 𝓤 H A W (replicate 16 empty) l₂ empties-are) $
+      move ! (18 ∷ []) $ use1 W (‵ (row R fullShare (replicate 16 empty) l₂ 0)) (array-in 𝓤 H A W 16 (replicate 16 empty) l₂ empties-are) $
       move ! (25 ∷ []) $ fsplit ! $ fsplit ! $ drop ! $ fsplit ! $ move ! (27 ∷ []) $ split ! $ move ! (3 ∷ 0 ∷ []) $
       looks-slice ! tt R (Is R) (shows 𝓤 H A R) R-vals R-tells (SL.copy 𝓔.the-type 𝓔′.the-copy 𝓤 H A W) ys b o (λ q′.
       keep ! (0 ∷ 6 ∷ 7 ∷ 8 ∷ 9 ∷ 10 ∷ 11 ∷ 12 ∷ 13 ∷ 14 ∷ 15 ∷ 16 ∷ 17 ∷ 18 ∷ 19 ∷ 20 ∷ 21 ∷ 22 ∷ 23 ∷ 24 ∷ 25 ∷ 26 ∷ 27 ∷ 28 ∷ 29 ∷ 1 ∷ 2 ∷ 4 ∷ []) $

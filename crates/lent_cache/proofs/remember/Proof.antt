@@ -1,13 +1,9 @@
 -- `lent_cache::remember` meets its contract: it is the body of `Change.antt`, over an entry and `cache::remember`. Assumes nothing.
-use mathlib.Core.Path.{refl}
 use contract.Running.{givenOf, tables, tablesOf}
 use denote.Triple.Spec.{tripleOf}
 use denote.Triple.Table.{entered, cited}
-use Rattle.replay.specs.Cache.{remembered}
-use Rattle.replay.specs.Cache.Calls.{misfit-list, remembered-10}
-use Rattle.replay.proofs.entry.Entry as 𝓟
-use Rattle.replay.proofs.entry.Entry.Laws as 𝓟′
-use Rattle.lent_cache.proofs.Change.{Call, Core, meets}
+use Rattle.lent_cache.proofs.Calls.{remembering}
+use Rattle.lent_cache.proofs.Change.{Core, meets}
 use Rattle.lent_cache.proofs.Loading.{Load, Store}
 use Rattle.lent_cache.proofs.load.Symbol as load
 use Rattle.lent_cache.proofs.load.Met as load-thm
@@ -20,24 +16,12 @@ use Rattle.lent_cache.proofs.remember.Key.{name as #remember}
 use Rattle.lent_cache.proofs.remember.Statement as stated
 use Rattle.lent_cache.proofs.remember.Code as code
 
-abbrev call : Call
-call = record {
-  type = 𝓟.the-type;
-  laws = 𝓟′.the-laws;
-  numbers = 𝓟′.the-plain;
-  last = λ _. tt;
-  silent = λ _ _. refl;
-  def = remembered;
-  def-10 = λ list count e n. remembered-10 list count e (misfit-list list count n);
-  core = core.name;
-}
-
 pub remember-spec : {M : Type 1} → stated.statement M
 unfolding code.routine tablesOf
 remember-spec 𝓤 H 𝓜 𝓖 𝓡 =
     entered 𝓤 H (tripleOf 𝓤 H (𝓖 .A) f.signature (f.spec 𝓤 H (𝓖 .A) (𝓜 .mem) (𝓡 .run)))
     (tables 𝓤 H 𝓜 𝓡 code.env .C) (tables 𝓤 H 𝓜 𝓡 code.env .Λ) #remember code.function (code.unfolded 𝓤 H 𝓜 𝓡)
-    (meets call 𝓤 H (𝓖 .A) (givenOf 𝓤 H 𝓜 𝓖) (𝓜 .mem) (𝓡 .run) (tablesOf 𝓤 H 𝓜 (tables 𝓤 H 𝓜 𝓡 code.env))
+    (meets remembering 𝓤 H (𝓖 .A) (givenOf 𝓤 H 𝓜 𝓖) (𝓜 .mem) (𝓡 .run) (tablesOf 𝓤 H 𝓜 (tables 𝓤 H 𝓜 𝓡 code.env))
     (cited 𝓤 H (Load 𝓤 H (𝓖 .A) (𝓜 .mem) (𝓡 .run)) 𝓜 𝓡 code.env load.name load.routine code.calls-lent-cache·load (load-thm.met 𝓤 H 𝓜 𝓖 𝓡))
-    (cited 𝓤 H (Core call 𝓤 H (𝓖 .A)) 𝓜 𝓡 code.env core.name core.routine code.calls-replay·cache·remember (core-thm.met 𝓤 H 𝓜 𝓖 𝓡))
+    (cited 𝓤 H (Core remembering 𝓤 H (𝓖 .A)) 𝓜 𝓡 code.env core.name core.routine code.calls-replay·cache·remember (core-thm.met 𝓤 H 𝓜 𝓖 𝓡))
     (cited 𝓤 H (Store 𝓤 H (𝓖 .A) (𝓜 .mem) (𝓡 .run)) 𝓜 𝓡 code.env store.name store.routine code.calls-lent-cache·store (store-thm.met 𝓤 H 𝓜 𝓖 𝓡)))

@@ -145,7 +145,7 @@ module _ {M : Type 1} (𝓤 : URA M) (H : Heap 𝓤) (A : Atoms 𝓤) (W : Given
         again ! Nearer At c (more c all-16 l) (add-one-dec 16 (c .i) l))))
         (λ over. exec ! C Λ En code-mir.t-4 (atRet En Post) $
         move ! (0 ∷ 25 ∷ 26 ∷ 27 ∷ []) $ closes-slice ! tt R ys (c .to) (c .size ∙ sym sixteen) b o $
-        move ! (3 ∷ []) $ use1 W (given (Is Sixteen all (S-vals all)) (‵ (fat fullShare S-mir l₃ 0 (S-val all)))) (array-out 𝓤 H A W all l₃ all-16) $ learn ! (λ _.
+        move ! (3 ∷ []) $ use1 W (given (Is Sixteen all (S-vals all)) (‵ (fat fullShare S-mir l₃ 0 (S-val all)))) (array-out 𝓤 H A W 16 all l₃ all-16) $ learn ! (λ _.
         -- [_3; obs; the borrow; the token; _11; …]
         assigns ! (of-opd ! (unit-lit !)) (from ! (stop !)) (init ! 25 refl (tt, tt)) $
         returns ! (look ! 25 refl) $ forget ! 0 refl $ forget ! 16 refl $ forget ! 18 refl $ forget ! 21 refl $ forget ! 23 refl $ forget ! 25 refl $
@@ -165,7 +165,7 @@ module _ {M : Type 1} (𝓤 : URA M) (H : Heap 𝓤) (A : Atoms 𝓤) (W : Given
       -- let mut i = 0, and a place in memory for `places`
       assigns ! (of-opd ! (load ! (from ! (stop !)) (look ! 18 refl))) (from ! (stop !)) (init ! 16 refl (S-typed 𝓤 H A W all _ are .0)) $
       assigns ! (of-opd ! (lit ! tt)) (from ! (stop !)) (init ! 14 refl (tt, record { fits = lit< tt })) $
-      move ! (16 ∷ []) $ use1 W (‵ (row R fullShare all l₃ 0)) (array-in 𝓤 H A W all l₃ are) $
+      move ! (16 ∷ []) $ use1 W (‵ (row R fullShare all l₃ 0)) (array-in 𝓤 H A W 16 all l₃ are) $
       move ! (25 ∷ []) $ fsplit ! $ fsplit ! $ drop ! $ fsplit ! $ move ! (27 ∷ []) $ split ! $ move ! (2 ∷ 3 ∷ 0 ∷ []) $ opens-slice ! tt R ys b o $
       keep ! (0 ∷ 6 ∷ 7 ∷ 8 ∷ 9 ∷ 10 ∷ 11 ∷ 12 ∷ 13 ∷ 14 ∷ 15 ∷ 16 ∷ 17 ∷ 18 ∷ 19 ∷ 20 ∷ 21 ∷ 22 ∷ 23 ∷ 24 ∷ 25 ∷ 26 ∷ 27 ∷ 28 ∷ 29 ∷ 1 ∷ 2 ∷ 3 ∷ []) $
       first ! $ blocks ! $ loops ! 𝓣 Nearer Nearer-wf (At 𝓣 l₀ l₁ l₂ l₃ l₄ l₅ l₆ l₇ l₈ l₉ l₁₀ l₁₁) (turns 𝓣 l₀ l₁ l₂ l₃ l₄ l₅ l₆ l₇ l₈ l₉ l₁₀ l₁₁) (start all ys sixteen)))))))))))))

@@ -8,7 +8,7 @@ use mathlib.Core.List.{List, [], _∷_, _++_, append-assoc, append-nil}
 use lib.ListN.{length, getD, take, drop, set, replicate, length-append, length-drop, length-replicate, getD-replicate, List·getD-append}
 use lib.Seq.{length-take-le, set-split, take-append-seam, drop-append-add, drop-drop, getD-append-add}
 use Rattle.replay.specs.declared.entry.Entry.{Entry}
-use Rattle.replay.specs.Cache.{empty, entries, padded, written, becomes, accepted, holding}
+use Rattle.replay.specs.Cache.{empty, entries, padded, written, becomes, accepted, done, appending}
 
 -- ---- written
 
@@ -61,12 +61,12 @@ written-append list count e l = set-split list count e l ∙ sym (append-assoc (
     last xs h = let z : count - length xs ≡ 0 = omega arith in rw (z, append-nil xs, h)
 
 pub appended : (list : List Entry) (count : ℕ) (e : Entry) → count < length list
-    → record { places = set list count e; count = count + 1 } ≡ becomes list count (entries list count ++ (e ∷ []))
+    → record { places = set list count e; count = count + 1 } ≡ appending list count e
 appended list count e l = λ j. record { places = written-append list count e l j; count = sym (append-length list count e (omega arith)) j }
 
--- ---- holding: the same of a call that ends with the entries `xs`
+-- ---- done: the same of a call that ends with the entries `xs`
 
-module _ (list : List Entry) (count : ℕ) (xs : List Entry) (n : ℕ) (after : List Entry) (h : holding list count xs ≡ accepted n after) where
+module _ (list : List Entry) (count : ℕ) (xs : List Entry) (n : ℕ) (after : List Entry) (h : done (becomes list count xs) ≡ accepted n after) where
   pub held-count : n ≡ length xs
   held-count = cc
 

@@ -48,22 +48,23 @@ pub fn headers(script: &mut Script<World>) {
 /// 10 for a table with other than its full number of places, and for a count
 /// over its limit.
 pub fn lengths_and_counts(script: &mut Script<World>) {
-    let mut lent = |text: &str, terms: usize, runs: usize, wire: usize| {
-        let mut world = exchanged();
-        world.lent = Lent { terms, runs, wire };
+    let mut lent = |text: &str, lent: Lent| {
+        let world = World { lent, ..exchanged() };
         script.case(text, &world, tick(5));
     };
-    let (terms, runs, wire) = (FULL.terms, FULL.runs, FULL.wire);
-    lent("lengths in order", terms, runs, wire);
-    lent("terms of 511 places", 511, runs, wire);
-    lent("terms of 513 places", 513, runs, wire);
-    lent("runs of 447 words", terms, 447, wire);
-    lent("runs of 449 words", terms, 449, wire);
-    lent("wire of 7 words", terms, runs, 7);
-    lent("wire of 9 words", terms, runs, 9);
-    lent("terms of no place", 0, runs, wire);
-    lent("runs of no word", terms, 0, wire);
-    lent("wire of no word", terms, runs, 0);
+    lent("lengths in order", FULL);
+    lent("terms of 511 places", Lent { terms: 511, ..FULL });
+    lent("terms of 513 places", Lent { terms: 513, ..FULL });
+    lent("runs of 447 words", Lent { runs: 447, ..FULL });
+    lent("runs of 449 words", Lent { runs: 449, ..FULL });
+    lent("wire of 7 words", Lent { wire: 7, ..FULL });
+    lent("wire of 9 words", Lent { wire: 9, ..FULL });
+    lent("cache of 15 places", Lent { cache: 15, ..FULL });
+    lent("cache of 17 places", Lent { cache: 17, ..FULL });
+    lent("terms of no place", Lent { terms: 0, ..FULL });
+    lent("runs of no word", Lent { runs: 0, ..FULL });
+    lent("wire of no word", Lent { wire: 0, ..FULL });
+    lent("cache of no place", Lent { cache: 0, ..FULL });
     let mut count = |text: &str, terms: usize, runs: usize, entries: usize, call: Call| {
         let mut world = exchanged();
         world.tables.counts.terms = terms;

@@ -5,10 +5,10 @@ use Rattle.call_cases.proofs.show.print_cache.Statement.{statement}
 use Rattle.call_cases.proofs.show.print_cache.Tie as tie
 
 abbrev Inv-loop : tie.InvT-loop
-Inv-loop before after i₀ i = i ≤ 16
+Inv-loop before after i₀ i = i ≤ 17
 
 abbrev μ-loop : tie.MeasureT-loop
-μ-loop before after i₀ i = 16 - i
+μ-loop before after i₀ i = 17 - i
 
 loop-holds : tie.Need-loop-holds Inv-loop μ-loop
 loop-holds c = search needs

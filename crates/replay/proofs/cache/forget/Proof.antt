@@ -1,7 +1,6 @@
 -- `cache::forget` meets its contract: each way out is a law of `forgotten`. Assumes nothing.
 use mathlib.Core.Path.{sym, ap, _∙_}
-use Rattle.replay.specs.declared.cache.Swept.{Swept}
-use Rattle.replay.specs.Cache.{accepted}
+use Rattle.replay.specs.Cache.{done}
 use Rattle.replay.specs.Cache.Calls.{fits-is, misfit-count, forgotten-10, forgotten-ok}
 use borrow.Author.Needs.{needs}
 use Rattle.replay.proofs.cache.forget.Statement.{statement}
@@ -17,7 +16,7 @@ sweep-requires : tie.Need-sweep-requires
 sweep-requires c κs = search needs
 
 returns-2 : tie.Need-returns-2
-returns-2 c = let a = c .before .before .before .args in ap (λ (s : Swept). accepted (s .count) (s .places)) (c .before .sweep .ensures) ∙ sym (forgotten-ok (a .places) (a .count) (a .p) (fits-is (a .places) (a .count) (search needs) (c .before .before .if1 .left)))
+returns-2 c = let a = c .before .before .before .args in ap done (c .before .sweep .ensures) ∙ sym (forgotten-ok (a .places) (a .count) (a .p) (fits-is (a .places) (a .count) (search needs) (c .before .before .if1 .left)))
 
 pub forget-spec : {M : Type 1} → statement M
 forget-spec = tie.close (tie.spec refuse-requires returns sweep-requires returns-2)
