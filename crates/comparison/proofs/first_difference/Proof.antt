@@ -17,9 +17,6 @@ Inv-loop a b line₀ i₀ line i =
 abbrev μ-loop : tie.MeasureT-loop
 μ-loop a b line₀ i₀ line i = length a - i
 
-loop-holds : tie.Need-loop-holds Inv-loop μ-loop
-loop-holds c = search needs
-
 returns : tie.Need-returns Inv-loop μ-loop
 returns c =
     let l = c .before .before .loop in
@@ -84,7 +81,7 @@ first-difference-spec =
     (tie.spec
     Inv-loop
     μ-loop
-    loop-holds
+    (λ c. search needs)
     returns
     shared-slice-read-if2
     shared-slice-read-if2-2

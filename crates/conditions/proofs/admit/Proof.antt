@@ -18,23 +18,14 @@ authenticator c = sym (c .before .authenticator-lives .ensures) ∙ not-false _ 
 
 -- ---- the needs
 
-ticket-lives-requires : tie.Need-ticket-lives-requires
-ticket-lives-requires c κs = search needs
-
 returns : tie.Need-returns
 returns c = let a = c .before .before .args in ticket-over (a .h) (a .cache) (a .ts) (a .e) (sym (c .before .ticket-lives .ensures) ∙ not-true _ (c .if1 .taken))
-
-authenticator-lives-requires : tie.Need-authenticator-lives-requires
-authenticator-lives-requires c κs = search needs
 
 returns-2 : tie.Need-returns-2
 returns-2 c =
     let e = c .before .before in
     let a = e .before .before .args in
     authenticator-over (a .h) (a .cache) (a .ts) (a .e) (ticket e) (sym (c .before .authenticator-lives .ensures) ∙ not-true _ (c .if2 .taken))
-
-refusal-requires : tie.Need-refusal-requires
-refusal-requires c κs = search needs
 
 returns-3 : tie.Need-returns-3
 returns-3 c =
@@ -43,4 +34,4 @@ returns-3 c =
     c .refusal .ensures ∙ by-cache (a .h) (a .cache) (a .ts) (a .e) (ticket (e .before .before)) (authenticator e)
 
 pub admit-spec : {M : Type 1} → statement M
-admit-spec = tie.close (tie.spec ticket-lives-requires returns authenticator-lives-requires returns-2 refusal-requires returns-3)
+admit-spec = tie.close (tie.spec (λ c κs. search needs) returns (λ c κs. search needs) returns-2 (λ c κs. search needs) returns-3)

@@ -3,39 +3,6 @@ use borrow.Author.Needs.{needs}
 use Rattle.deduction.proofs.is_public.Statement.{statement}
 use Rattle.deduction.proofs.is_public.Tie as tie
 
-enum-told : tie.Need-enum-told
-enum-told c = search needs
-
-enum-told-2 : tie.Need-enum-told-2
-enum-told-2 c = search needs
-
-enum-known-t : tie.Need-enum-known-t
-enum-known-t c = search needs
-
-enum-known-t-2 : tie.Need-enum-known-t-2
-enum-known-t-2 c = search needs
-
-flagged-requires : tie.Need-flagged-requires
-flagged-requires c κs = search needs
-
-enum-known-t-3 : tie.Need-enum-known-t-3
-enum-known-t-3 c = search needs
-
-enum-told-3 : tie.Need-enum-told-3
-enum-told-3 c = search needs
-
-enum-told-4 : tie.Need-enum-told-4
-enum-told-4 c = search needs
-
-enum-told-5 : tie.Need-enum-told-5
-enum-told-5 c = search needs
-
-returns : tie.Need-returns
-returns c = search needs
-
-returns-2 : tie.Need-returns-2
-returns-2 c = search needs
-
 returns-3 : tie.Need-returns-3
 returns-3 c = rw (c .before .t .given .1)
 
@@ -45,33 +12,24 @@ returns-4 c = rw (c .before .before .t2 .given .1) (c .flagged .ensures)
 returns-5 : tie.Need-returns-5
 returns-5 c = rw (c .before .t3 .given .1)
 
-returns-6 : tie.Need-returns-6
-returns-6 c = search needs
-
-returns-7 : tie.Need-returns-7
-returns-7 c = search needs
-
-returns-8 : tie.Need-returns-8
-returns-8 c = search needs
-
 pub is-public-spec : {M : Type 1} → statement M
 is-public-spec =
     tie.close
     (tie.spec
-    enum-told
-    enum-told-2
-    enum-known-t
-    enum-known-t-2
-    flagged-requires
-    enum-known-t-3
-    enum-told-3
-    enum-told-4
-    enum-told-5
-    returns
-    returns-2
+    (λ c. search needs)
+    (λ c. search needs)
+    (λ c. search needs)
+    (λ c. search needs)
+    (λ c κs. search needs)
+    (λ c. search needs)
+    (λ c. search needs)
+    (λ c. search needs)
+    (λ c. search needs)
+    (λ c. search needs)
+    (λ c. search needs)
     returns-3
     returns-4
     returns-5
-    returns-6
-    returns-7
-    returns-8)
+    (λ c. search needs)
+    (λ c. search needs)
+    (λ c. search needs))

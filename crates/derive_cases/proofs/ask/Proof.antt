@@ -6,35 +6,20 @@ use lib.Seq.{length-take-le}
 use Rattle.derive_cases.proofs.ask.Statement.{statement}
 use Rattle.derive_cases.proofs.ask.Tie as tie
 
-least-requires : tie.Need-least-requires
-least-requires c κs = search needs
-
-least-requires-2 : tie.Need-least-requires-2
-least-requires-2 c κs = search needs
-
 slice-aggregate-can-derive : tie.Need-slice-aggregate-can-derive
 slice-aggregate-can-derive c = sym (length-take-le _ _ (omega arith))
 
 slice-aggregate-can-derive-2 : tie.Need-slice-aggregate-can-derive-2
 slice-aggregate-can-derive-2 c = sym (length-take-le _ _ (omega arith))
 
-can-derive-requires : tie.Need-can-derive-requires
-can-derive-requires c κs = search needs
-
-report-requires : tie.Need-report-requires
-report-requires c κs = search needs
-
-returns : tie.Need-returns
-returns c = search needs
-
 pub ask-spec : {M : Type 1} → statement M
 ask-spec =
     tie.close
     (tie.spec
-    least-requires
-    least-requires-2
+    (λ c κs. search needs)
+    (λ c κs. search needs)
     slice-aggregate-can-derive
     slice-aggregate-can-derive-2
-    can-derive-requires
-    report-requires
-    returns)
+    (λ c κs. search needs)
+    (λ c κs. search needs)
+    (λ c. search needs))

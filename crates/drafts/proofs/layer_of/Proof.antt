@@ -6,42 +6,6 @@ use borrow.Author.Needs.{needs}
 use Rattle.drafts.proofs.layer_of.Statement.{statement}
 use Rattle.drafts.proofs.layer_of.Tie as tie
 
-enum-known-node : tie.Need-enum-known-node
-enum-known-node c = search needs
-
-encode-requires : tie.Need-encode-requires
-encode-requires c κs = search needs
-
-enum-known-node-2 : tie.Need-enum-known-node-2
-enum-known-node-2 c = search needs
-
-encode-requires-2 : tie.Need-encode-requires-2
-encode-requires-2 c κs = search needs
-
-enum-known-node-3 : tie.Need-enum-known-node-3
-enum-known-node-3 c = search needs
-
-encode-requires-3 : tie.Need-encode-requires-3
-encode-requires-3 c κs = search needs
-
-enum-known-node-4 : tie.Need-enum-known-node-4
-enum-known-node-4 c = search needs
-
-key-word-requires : tie.Need-key-word-requires
-key-word-requires c κs = search needs
-
-enum-known-node-5 : tie.Need-enum-known-node-5
-enum-known-node-5 c = search needs
-
-enum-known-node-6 : tie.Need-enum-known-node-6
-enum-known-node-6 c = search needs
-
-key-word-requires-2 : tie.Need-key-word-requires-2
-key-word-requires-2 c κs = search needs
-
-enum-known-node-7 : tie.Need-enum-known-node-7
-enum-known-node-7 c = search needs
-
 returns : tie.Need-returns
 returns c = rw (c .before .before .node .given .1) (ap layers.Atom (c .encode .ensures))
 
@@ -67,18 +31,18 @@ pub layer-of-spec : {M : Type 1} → statement M
 layer-of-spec =
     tie.close
     (tie.spec
-    enum-known-node
-    encode-requires
-    enum-known-node-2
-    encode-requires-2
-    enum-known-node-3
-    encode-requires-3
-    enum-known-node-4
-    key-word-requires
-    enum-known-node-5
-    enum-known-node-6
-    key-word-requires-2
-    enum-known-node-7
+    (λ c. search needs)
+    (λ c κs. search needs)
+    (λ c. search needs)
+    (λ c κs. search needs)
+    (λ c. search needs)
+    (λ c κs. search needs)
+    (λ c. search needs)
+    (λ c κs. search needs)
+    (λ c. search needs)
+    (λ c. search needs)
+    (λ c κs. search needs)
+    (λ c. search needs)
     returns
     returns-2
     returns-3

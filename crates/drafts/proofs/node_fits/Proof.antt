@@ -4,36 +4,6 @@ use borrow.Author.Needs.{needs}
 use Rattle.drafts.proofs.node_fits.Statement.{statement}
 use Rattle.drafts.proofs.node_fits.Tie as tie
 
-enum-known-node : tie.Need-enum-known-node
-enum-known-node c = search needs
-
-enum-known-node-2 : tie.Need-enum-known-node-2
-enum-known-node-2 c = search needs
-
-enum-known-node-3 : tie.Need-enum-known-node-3
-enum-known-node-3 c = search needs
-
-enum-known-node-4 : tie.Need-enum-known-node-4
-enum-known-node-4 c = search needs
-
-key-fits-requires : tie.Need-key-fits-requires
-key-fits-requires c κs = search needs
-
-enum-known-node-5 : tie.Need-enum-known-node-5
-enum-known-node-5 c = search needs
-
-enum-known-node-6 : tie.Need-enum-known-node-6
-enum-known-node-6 c = search needs
-
-key-fits-requires-2 : tie.Need-key-fits-requires-2
-key-fits-requires-2 c κs = search needs
-
-enum-known-node-7 : tie.Need-enum-known-node-7
-enum-known-node-7 c = search needs
-
-cast-result : tie.Need-cast-result
-cast-result c = search needs
-
 returns : tie.Need-returns
 returns c = rw (c .before .node .given .1)
 
@@ -65,16 +35,16 @@ pub node-fits-spec : {M : Type 1} → statement M
 node-fits-spec =
     tie.close
     (tie.spec
-    enum-known-node
-    enum-known-node-2
-    enum-known-node-3
-    enum-known-node-4
-    key-fits-requires
-    enum-known-node-5
-    enum-known-node-6
-    key-fits-requires-2
-    enum-known-node-7
-    cast-result
+    (λ c. search needs)
+    (λ c. search needs)
+    (λ c. search needs)
+    (λ c. search needs)
+    (λ c κs. search needs)
+    (λ c. search needs)
+    (λ c. search needs)
+    (λ c κs. search needs)
+    (λ c. search needs)
+    (λ c. search needs)
     returns
     returns-2
     returns-3

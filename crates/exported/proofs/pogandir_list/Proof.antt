@@ -7,25 +7,10 @@ use Rattle.exported.specs.Numbers.{shown}
 use Rattle.exported.proofs.pogandir_list.Statement.{statement}
 use Rattle.exported.proofs.pogandir_list.Tie as tie
 
-list-requires : tie.Need-list-requires
-list-requires c κs = search needs
-
-enum-known-count : tie.Need-enum-known-count
-enum-known-count c = search needs
-
-enum-told : tie.Need-enum-told
-enum-told c = search needs
-
-same-length : tie.Need-same-length
-same-length c = search needs
-
 returns : tie.Need-returns
 returns c =
     let l = c .before .before .before .before .before .list in
     ap shown (ap (λ (r : Listing). listOutcome r (l .last .1 .0)) (sym (c .before .count .given .1)) ∙ l .ensures)
-
-same-length-2 : tie.Need-same-length-2
-same-length-2 c = search needs
 
 returns-2 : tie.Need-returns-2
 returns-2 c =
@@ -35,4 +20,4 @@ returns-2 c =
 pub pogandir-list-spec : {M : Type 1} → statement M
 pogandir-list-spec =
     tie.close
-    (tie.spec list-requires enum-known-count enum-told same-length returns same-length-2 returns-2)
+    (tie.spec (λ c κs. search needs) (λ c. search needs) (λ c. search needs) (λ c. search needs) returns (λ c. search needs) returns-2)

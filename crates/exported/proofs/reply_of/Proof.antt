@@ -7,24 +7,6 @@ use borrow.Author.Needs.{needs}
 use Rattle.exported.proofs.reply_of.Statement.{statement}
 use Rattle.exported.proofs.reply_of.Tie as tie
 
-enum-known-answer : tie.Need-enum-known-answer
-enum-known-answer c = search needs
-
-enum-known-answer-2 : tie.Need-enum-known-answer-2
-enum-known-answer-2 c = search needs
-
-cast-t8 : tie.Need-cast-t8
-cast-t8 c = search needs
-
-enum-told : tie.Need-enum-told
-enum-told c = search needs
-
-enum-known-answer-3 : tie.Need-enum-known-answer-3
-enum-known-answer-3 c = search needs
-
-cast-t9 : tie.Need-cast-t9
-cast-t9 c = search needs
-
 told : (h : Realm) {x y : Answer} → x ≡ y → replyOf (record { realm = h; answer = x }) ≡ replyOf (record { realm = h; answer = y })
 told h e = ap (λ (a : Answer). replyOf (record { realm = h; answer = a })) e
 
@@ -44,12 +26,12 @@ pub reply-of-spec : {M : Type 1} → statement M
 reply-of-spec =
     tie.close
     (tie.spec
-    enum-known-answer
-    enum-known-answer-2
-    cast-t8
-    enum-told
-    enum-known-answer-3
-    cast-t9
+    (λ c. search needs)
+    (λ c. search needs)
+    (λ c. search needs)
+    (λ c. search needs)
+    (λ c. search needs)
+    (λ c. search needs)
     returns
     returns-2
     returns-3

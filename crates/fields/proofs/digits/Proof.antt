@@ -20,14 +20,8 @@ abbrev μ-loop : tie.MeasureT-loop
 short : (c : tie.Start Inv-loop μ-loop) → length (decimal (c .args .number)) ≤ 10
 short c = decimal-short (c .args .number) 9 (omega (arith, c .fits .number .fits))
 
-loop-holds : tie.Need-loop-holds Inv-loop μ-loop
-loop-holds c = search needs
-
 add-count : tie.Need-add-count Inv-loop μ-loop
 add-count c = omega (arith, short (c .before .before))
-
-loop-less : tie.Need-loop-less Inv-loop μ-loop
-loop-less c = search needs
 
 loop-again : tie.Need-loop-again Inv-loop μ-loop
 loop-again c = omega (arith, length-more (c .before .loop .rest) (search needs))
@@ -39,4 +33,4 @@ returns c =
 
 pub digits-spec : {M : Type 1} → statement M
 digits-spec =
-    tie.close (tie.spec Inv-loop μ-loop loop-holds add-count loop-less loop-again returns)
+    tie.close (tie.spec Inv-loop μ-loop (λ c. search needs) add-count (λ c. search needs) loop-again returns)

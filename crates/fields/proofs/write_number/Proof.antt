@@ -18,29 +18,11 @@ Inv-loop out₀ at number end first₀ rest₀ out first rest =
 abbrev μ-loop : tie.MeasureT-loop
 μ-loop out₀ at number end first₀ rest₀ out first rest = rest
 
-digits-requires : tie.Need-digits-requires Inv-loop μ-loop
-digits-requires c κs = search needs
-
-add-end : tie.Need-add-end Inv-loop μ-loop
-add-end c = search needs
-
 loop-holds : tie.Need-loop-holds Inv-loop μ-loop
 loop-holds c = (search needs, search needs, search needs, refl)
 
 sub-first : tie.Need-sub-first Inv-loop μ-loop
 sub-first c = omega (arith, length-more (c .before .loop .rest) (search needs))
-
-cast-out : tie.Need-cast-out Inv-loop μ-loop
-cast-out c = search needs
-
-add-out : tie.Need-add-out Inv-loop μ-loop
-add-out c = search needs
-
-slice-write-out : tie.Need-slice-write-out Inv-loop μ-loop
-slice-write-out c = search needs
-
-loop-less : tie.Need-loop-less Inv-loop μ-loop
-loop-less c = search needs
 
 loop-again : tie.Need-loop-again Inv-loop μ-loop
 loop-again c =
@@ -53,18 +35,6 @@ loop-again c =
       search needs,
       placed-last (l .out) (a .at) (decimal (l .rest / 10)) (48 + l .rest % 10) e (search needs) ∙ ap (placed (l .out) (a .at)) (sym (decimal-more (l .rest) ten)) ∙ l .inv .3,
     )
-
-cast-out-2 : tie.Need-cast-out-2 Inv-loop μ-loop
-cast-out-2 c = search needs
-
-add-out-2 : tie.Need-add-out-2 Inv-loop μ-loop
-add-out-2 c = search needs
-
-slice-write-out-2 : tie.Need-slice-write-out-2 Inv-loop μ-loop
-slice-write-out-2 c = search needs
-
-same-length : tie.Need-same-length Inv-loop μ-loop
-same-length c = search needs
 
 returns : tie.Need-returns Inv-loop μ-loop
 returns c =
@@ -84,17 +54,17 @@ write-number-spec =
     (tie.spec
     Inv-loop
     μ-loop
-    digits-requires
-    add-end
+    (λ c κs. search needs)
+    (λ c. search needs)
     loop-holds
     sub-first
-    cast-out
-    add-out
-    slice-write-out
-    loop-less
+    (λ c. search needs)
+    (λ c. search needs)
+    (λ c. search needs)
+    (λ c. search needs)
     loop-again
-    cast-out-2
-    add-out-2
-    slice-write-out-2
-    same-length
+    (λ c. search needs)
+    (λ c. search needs)
+    (λ c. search needs)
+    (λ c. search needs)
     returns)

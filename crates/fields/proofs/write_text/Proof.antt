@@ -33,24 +33,6 @@ copied xs text at {n} {part} h e p =
       offset = ap (λ (k : ℕ). at + k) e;
     }
 
-sub-copy : tie.Need-sub-copy
-sub-copy c = search needs
-
-part-copy-start : tie.Need-part-copy-start
-part-copy-start c = search needs
-
-part-copy-end : tie.Need-part-copy-end
-part-copy-end c = search needs
-
-copy-requires : tie.Need-copy-requires
-copy-requires c κs = search needs
-
-add-result : tie.Need-add-result
-add-result c = search needs
-
-same-length : tie.Need-same-length
-same-length c = search needs
-
 returns : tie.Need-returns
 returns c = let a = c .before .before .before .before .before .before .args in
     copied (a .out .now) (a .text .now) (a .at) (c .before .before .before .before .before .before .pre) (c .before .before .copy .ensures .0) (c .before .before .copy .ensures .1)
@@ -58,4 +40,4 @@ returns c = let a = c .before .before .before .before .before .before .args in
 pub write-text-spec : {M : Type 1} → statement M
 write-text-spec =
     tie.close
-    (tie.spec sub-copy part-copy-start part-copy-end copy-requires add-result same-length returns)
+    (tie.spec (λ c. search needs) (λ c. search needs) (λ c. search needs) (λ c κs. search needs) (λ c. search needs) (λ c. search needs) returns)

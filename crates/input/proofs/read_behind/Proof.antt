@@ -24,25 +24,13 @@ abbrev μ-loop : tie.MeasureT-loop
 loop-holds : tie.Need-loop-holds Inv-loop μ-loop
 loop-holds c = no-read (c .before .args .buffer .now) (c .before .args .count) (c .before .pre)
 
-read-more-requires : tie.Need-read-more-requires Inv-loop μ-loop
-read-more-requires c κs = search needs
-
-same-length : tie.Need-same-length Inv-loop μ-loop
-same-length c = search needs
-
 returns : tie.Need-returns Inv-loop μ-loop
 returns c =
     let r = c .before .before .before .before .read-more in
     (behind (c .before .before .before .before .before .before .before .loop .inv) (r .ensures .0), nothing (r .result .last) (r .ensures .1) (search needs) (r .ensures .0 .same))
 
-loop-less : tie.Need-loop-less Inv-loop μ-loop
-loop-less c = search needs
-
 loop-again : tie.Need-loop-again Inv-loop μ-loop
 loop-again c = behind (c .before .before .before .before .before .before .before .loop .inv) (c .before .before .before .before .read-more .ensures .0)
-
-same-length-2 : tie.Need-same-length-2 Inv-loop μ-loop
-same-length-2 c = search needs
 
 returns-2 : tie.Need-returns-2 Inv-loop μ-loop
 returns-2 c = (c .before .loop .inv, search needs)
@@ -54,10 +42,10 @@ read-behind-spec =
     Inv-loop
     μ-loop
     loop-holds
-    read-more-requires
-    same-length
+    (λ c κs. search needs)
+    (λ c. search needs)
     returns
-    loop-less
+    (λ c. search needs)
     loop-again
-    same-length-2
+    (λ c. search needs)
     returns-2)

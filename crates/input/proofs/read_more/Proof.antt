@@ -9,33 +9,6 @@ use Rattle.input.specs.Reads.{one-read}
 use Rattle.input.proofs.read_more.Statement.{statement}
 use Rattle.input.proofs.read_more.Tie as tie
 
-sub-read-part : tie.Need-sub-read-part
-sub-read-part c = search needs
-
-part-read-part-start : tie.Need-part-read-part-start
-part-read-part-start c = search needs
-
-part-read-part-end : tie.Need-part-read-part-end
-part-read-part-end c = search needs
-
-read-part-requires : tie.Need-read-part-requires
-read-part-requires c κs = search needs
-
-sub-count : tie.Need-sub-count
-sub-count c = search needs
-
-part-count-start : tie.Need-part-count-start
-part-count-start c = search needs
-
-part-count-end : tie.Need-part-count-end
-part-count-end c = search needs
-
-count-requires : tie.Need-count-requires
-count-requires c κs = search needs
-
-add-end : tie.Need-add-end
-add-end c = search needs
-
 same-length : tie.Need-same-length
 same-length c = search needs
 
@@ -53,14 +26,14 @@ pub read-more-spec : {M : Type 1} → statement M
 read-more-spec =
     tie.close
     (tie.spec
-    sub-read-part
-    part-read-part-start
-    part-read-part-end
-    read-part-requires
-    sub-count
-    part-count-start
-    part-count-end
-    count-requires
-    add-end
+    (λ c. search needs)
+    (λ c. search needs)
+    (λ c. search needs)
+    (λ c κs. search needs)
+    (λ c. search needs)
+    (λ c. search needs)
+    (λ c. search needs)
+    (λ c κs. search needs)
+    (λ c. search needs)
     same-length
     returns)

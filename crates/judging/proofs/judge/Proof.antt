@@ -13,18 +13,6 @@ use Rattle.judging.specs.Laws.{has-room}
 use Rattle.judging.proofs.judge.Statement.{statement}
 use Rattle.judging.proofs.judge.Tie as tie
 
-slice-aggregate-list : tie.Need-slice-aggregate-list
-slice-aggregate-list c = search needs
-
-list-requires : tie.Need-list-requires
-list-requires c κs = search needs
-
-enum-told : tie.Need-enum-told
-enum-told c = search needs
-
-enum-known-end : tie.Need-enum-known-end
-enum-known-end c = search needs
-
 -- what was written, as the law on the buffer has it
 wrote : (c : tie.After-known-told)
     → written (c .before .end .given .0 .0) (c .before .before .before .before .list .last .1 .0)
@@ -37,9 +25,6 @@ array-share-prefix-out c = counts _ _ _ _ (wrote c) .0
 
 slice-aggregate-first-difference : tie.Need-slice-aggregate-first-difference
 slice-aggregate-first-difference c = counts _ _ _ _ (wrote (c .before)) .1
-
-first-difference-requires : tie.Need-first-difference-requires
-first-difference-requires c κs = search needs
 
 returns : tie.Need-returns
 returns c =
@@ -56,12 +41,12 @@ pub judge-spec : {M : Type 1} → statement M
 judge-spec =
     tie.close
     (tie.spec
-    slice-aggregate-list
-    list-requires
-    enum-told
-    enum-known-end
+    (λ c. search needs)
+    (λ c κs. search needs)
+    (λ c. search needs)
+    (λ c. search needs)
     array-share-prefix-out
     slice-aggregate-first-difference
-    first-difference-requires
+    (λ c κs. search needs)
     returns
     returns-2)

@@ -5,18 +5,6 @@ use Rattle.layouts.specs.Drafts.{authenticatorDraft}
 use Rattle.layouts.proofs.lay_authenticator.Statement.{statement}
 use Rattle.layouts.proofs.lay_authenticator.Tie as tie
 
-array-set-from-draft : tie.Need-array-set-from-draft
-array-set-from-draft c = search needs
-
-array-set-from-draft-2 : tie.Need-array-set-from-draft-2
-array-set-from-draft-2 c = search needs
-
-array-set-from-draft-3 : tie.Need-array-set-from-draft-3
-array-set-from-draft-3 c = search needs
-
-array-set-from-draft-4 : tie.Need-array-set-from-draft-4
-array-set-from-draft-4 c = search needs
-
 returns : tie.Need-returns
 unfolding authenticatorDraft
 returns c = refl
@@ -25,8 +13,8 @@ pub lay-authenticator-spec : {M : Type 1} → statement M
 lay-authenticator-spec =
     tie.close
     (tie.spec
-    array-set-from-draft
-    array-set-from-draft-2
-    array-set-from-draft-3
-    array-set-from-draft-4
+    (λ c. search needs)
+    (λ c. search needs)
+    (λ c. search needs)
+    (λ c. search needs)
     returns)

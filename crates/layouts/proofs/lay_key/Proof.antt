@@ -5,12 +5,9 @@ use Rattle.layouts.specs.Drafts.{keyDraft}
 use Rattle.layouts.proofs.lay_key.Statement.{statement}
 use Rattle.layouts.proofs.lay_key.Tie as tie
 
-array-set-from-draft : tie.Need-array-set-from-draft
-array-set-from-draft c = search needs
-
 returns : tie.Need-returns
 unfolding keyDraft
 returns c = refl
 
 pub lay-key-spec : {M : Type 1} → statement M
-lay-key-spec = tie.close (tie.spec array-set-from-draft returns)
+lay-key-spec = tie.close (tie.spec (λ c. search needs) returns)

@@ -5,21 +5,6 @@ use Rattle.layouts.specs.Drafts.{requestDraft}
 use Rattle.layouts.proofs.lay_request.Statement.{statement}
 use Rattle.layouts.proofs.lay_request.Tie as tie
 
-array-set-from-draft : tie.Need-array-set-from-draft
-array-set-from-draft c = search needs
-
-array-set-from-draft-2 : tie.Need-array-set-from-draft-2
-array-set-from-draft-2 c = search needs
-
-array-set-from-draft-3 : tie.Need-array-set-from-draft-3
-array-set-from-draft-3 c = search needs
-
-array-set-from-draft-4 : tie.Need-array-set-from-draft-4
-array-set-from-draft-4 c = search needs
-
-array-set-from-draft-5 : tie.Need-array-set-from-draft-5
-array-set-from-draft-5 c = search needs
-
 returns : tie.Need-returns
 unfolding requestDraft
 returns c = refl
@@ -28,9 +13,9 @@ pub lay-request-spec : {M : Type 1} → statement M
 lay-request-spec =
     tie.close
     (tie.spec
-    array-set-from-draft
-    array-set-from-draft-2
-    array-set-from-draft-3
-    array-set-from-draft-4
-    array-set-from-draft-5
+    (λ c. search needs)
+    (λ c. search needs)
+    (λ c. search needs)
+    (λ c. search needs)
+    (λ c. search needs)
     returns)

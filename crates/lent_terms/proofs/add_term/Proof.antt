@@ -11,20 +11,11 @@ use Rattle.lent_terms.proofs.add_term.Tie as tie
 held : (c : tie.Else1) → let a = c .before .before .before .before .args in holds (a .n) (a .terms .now) (a .count) ≡ true
 held c = sym (c .before .holds-together .ensures) ∙ not-false _ (c .if1 .left)
 
-holds-together-requires : tie.Need-holds-together-requires
-holds-together-requires c κs = search needs
-
-same-length : tie.Need-same-length
-same-length c = search needs
-
 returns : tie.Need-returns
 returns c = let a = c .before .before .before .before .args in add-term-bad (a .n) (a .terms .now) (a .count) (a .word) (sym (c .before .holds-together .ensures) ∙ not-true _ (c .if1 .taken))
 
 add-requires : tie.Need-add-requires
 add-requires c κs = let a = c .before .before .before .before .before .args in holds-valid (a .n) (a .terms .now) (a .count) (held (c .before))
-
-same-length-2 : tie.Need-same-length-2
-same-length-2 c = search needs
 
 returns-2 : tie.Need-returns-2
 returns-2 c =
@@ -34,4 +25,4 @@ returns-2 c =
 pub add-term-spec : {M : Type 1} → statement M
 add-term-spec =
     tie.close
-    (tie.spec holds-together-requires same-length returns add-requires same-length-2 returns-2)
+    (tie.spec (λ c κs. search needs) (λ c. search needs) returns add-requires (λ c. search needs) returns-2)

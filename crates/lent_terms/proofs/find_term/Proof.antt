@@ -12,20 +12,11 @@ use Rattle.lent_terms.proofs.find_term.Tie as tie
 held : (c : tie.Else1) → let a = c .before .before .before .args in holds (a .n) (a .terms .now) (a .count) ≡ true
 held c = sym (c .before .holds-together .ensures) ∙ not-false _ (c .if1 .left)
 
-holds-together-requires : tie.Need-holds-together-requires
-holds-together-requires c κs = search needs
-
 returns : tie.Need-returns
 returns c = let a = c .before .before .before .args in lookup-bad (a .n) (a .terms .now) (a .count) (a .word) (sym (c .before .holds-together .ensures) ∙ not-true _ (c .if1 .taken))
 
 find-requires : tie.Need-find-requires
 find-requires c κs = let a = c .before .before .before .args in let v = holds-valid (a .n) (a .terms .now) (a .count) (held c) in omega (arith, v .size, v .room)
-
-enum-known-i : tie.Need-enum-known-i
-enum-known-i c = search needs
-
-enum-told : tie.Need-enum-told
-enum-told c = search needs
 
 returns-2 : tie.Need-returns-2
 returns-2 c =
@@ -41,10 +32,10 @@ pub find-term-spec : {M : Type 1} → statement M
 find-term-spec =
     tie.close
     (tie.spec
-    holds-together-requires
+    (λ c κs. search needs)
     returns
     find-requires
-    enum-known-i
-    enum-told
+    (λ c. search needs)
+    (λ c. search needs)
     returns-2
     returns-3)

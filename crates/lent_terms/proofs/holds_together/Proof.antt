@@ -27,9 +27,6 @@ returns-2 c =
 loop-holds : tie.Need-loop-holds Inv-loop μ-loop
 loop-holds c = (search needs, λ k h. absurd (omega arith))
 
-term-stands-requires : tie.Need-term-stands-requires Inv-loop μ-loop
-term-stands-requires c κs = search needs
-
 returns-3 : tie.Need-returns-3 Inv-loop μ-loop
 returns-3 c =
     let a = c .before .before .before .before .before .before .before .args in
@@ -38,12 +35,6 @@ returns-3 c =
     (λ e.
     let v = holds-valid (a .n) (a .terms .now) (a .count) e in
     no-true (sym (not-true _ (c .if3 .taken)) ∙ c .before .term-stands .ensures ∙ is-stands (terms-stand (v .terms) i (c .before .before .loop-test .taken))))
-
-add-i : tie.Need-add-i Inv-loop μ-loop
-add-i c = search needs
-
-loop-less : tie.Need-loop-less Inv-loop μ-loop
-loop-less c = search needs
 
 loop-again : tie.Need-loop-again Inv-loop μ-loop
 loop-again c =
@@ -64,9 +55,9 @@ holds-together-spec =
     returns
     returns-2
     loop-holds
-    term-stands-requires
+    (λ c κs. search needs)
     returns-3
-    add-i
-    loop-less
+    (λ c. search needs)
+    (λ c. search needs)
     loop-again
     returns-4)

@@ -8,28 +8,10 @@ use borrow.Author.Needs.{needs}
 use Rattle.lent_terms.proofs.term_stands.Statement.{statement}
 use Rattle.lent_terms.proofs.term_stands.Tie as tie
 
-mul-word : tie.Need-mul-word
-mul-word c = search needs
-
-shared-slice-read-word : tie.Need-shared-slice-read-word
-shared-slice-read-word c = search needs
-
-refusal-requires : tie.Need-refusal-requires
-refusal-requires c κs = search needs
-
 returns : tie.Need-returns
 returns c =
     let a = c .before .before .before .before .args in
     is-false _ (λ e. c .if1 .taken (c .before .refusal .ensures ∙ stands-is (a .n) (a .terms .now) (a .i) e .fine))
-
-find-requires : tie.Need-find-requires
-find-requires c κs = search needs
-
-enum-told : tie.Need-enum-told
-enum-told c = search needs
-
-enum-told-2 : tie.Need-enum-told-2
-enum-told-2 c = search needs
 
 returns-2 : tie.Need-returns-2
 returns-2 c =
@@ -52,12 +34,12 @@ pub term-stands-spec : {M : Type 1} → statement M
 term-stands-spec =
     tie.close
     (tie.spec
-    mul-word
-    shared-slice-read-word
-    refusal-requires
+    (λ c. search needs)
+    (λ c. search needs)
+    (λ c κs. search needs)
     returns
-    find-requires
-    enum-told
-    enum-told-2
+    (λ c κs. search needs)
+    (λ c. search needs)
+    (λ c. search needs)
     returns-2
     returns-3)

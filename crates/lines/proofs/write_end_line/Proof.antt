@@ -8,39 +8,6 @@ use borrow.Author.Needs.{needs}
 use Rattle.lines.proofs.write_end_line.Statement.{statement}
 use Rattle.lines.proofs.write_end_line.Tie as tie
 
-slice-aggregate-write-field : tie.Need-slice-aggregate-write-field
-slice-aggregate-write-field c = search needs
-
-write-field-requires : tie.Need-write-field-requires
-write-field-requires c κs = search needs
-
-slice-aggregate-write-field-2 : tie.Need-slice-aggregate-write-field-2
-slice-aggregate-write-field-2 c = search needs
-
-write-field-requires-2 : tie.Need-write-field-requires-2
-write-field-requires-2 c κs = search needs
-
-slice-aggregate-write-field-3 : tie.Need-slice-aggregate-write-field-3
-slice-aggregate-write-field-3 c = search needs
-
-write-field-requires-3 : tie.Need-write-field-requires-3
-write-field-requires-3 c κs = search needs
-
-slice-aggregate-write-field-4 : tie.Need-slice-aggregate-write-field-4
-slice-aggregate-write-field-4 c = search needs
-
-write-field-requires-4 : tie.Need-write-field-requires-4
-write-field-requires-4 c κs = search needs
-
-slice-aggregate-write-text : tie.Need-slice-aggregate-write-text
-slice-aggregate-write-text c = search needs
-
-write-text-requires : tie.Need-write-text-requires
-write-text-requires c κs = search needs
-
-same-length : tie.Need-same-length
-same-length c = search needs
-
 returns : tie.Need-returns
 unfolding endLine
 returns c =
@@ -56,15 +23,15 @@ pub write-end-line-spec : {M : Type 1} → statement M
 write-end-line-spec =
     tie.close
     (tie.spec
-    slice-aggregate-write-field
-    write-field-requires
-    slice-aggregate-write-field-2
-    write-field-requires-2
-    slice-aggregate-write-field-3
-    write-field-requires-3
-    slice-aggregate-write-field-4
-    write-field-requires-4
-    slice-aggregate-write-text
-    write-text-requires
-    same-length
+    (λ c. search needs)
+    (λ c κs. search needs)
+    (λ c. search needs)
+    (λ c κs. search needs)
+    (λ c. search needs)
+    (λ c κs. search needs)
+    (λ c. search needs)
+    (λ c κs. search needs)
+    (λ c. search needs)
+    (λ c κs. search needs)
+    (λ c. search needs)
     returns)

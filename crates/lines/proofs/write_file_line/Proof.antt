@@ -9,24 +9,6 @@ use borrow.Author.Needs.{needs}
 use Rattle.lines.proofs.write_file_line.Statement.{statement}
 use Rattle.lines.proofs.write_file_line.Tie as tie
 
-write-number-requires : tie.Need-write-number-requires
-write-number-requires c κs = search needs
-
-slice-aggregate-write-field : tie.Need-slice-aggregate-write-field
-slice-aggregate-write-field c = search needs
-
-write-field-requires : tie.Need-write-field-requires
-write-field-requires c κs = search needs
-
-slice-aggregate-write-text : tie.Need-slice-aggregate-write-text
-slice-aggregate-write-text c = search needs
-
-write-text-requires : tie.Need-write-text-requires
-write-text-requires c κs = search needs
-
-same-length : tie.Need-same-length
-same-length c = search needs
-
 returns : tie.Need-returns
 unfolding fileLine
 returns c =
@@ -41,10 +23,10 @@ pub write-file-line-spec : {M : Type 1} → statement M
 write-file-line-spec =
     tie.close
     (tie.spec
-    write-number-requires
-    slice-aggregate-write-field
-    write-field-requires
-    slice-aggregate-write-text
-    write-text-requires
-    same-length
+    (λ c κs. search needs)
+    (λ c. search needs)
+    (λ c κs. search needs)
+    (λ c. search needs)
+    (λ c κs. search needs)
+    (λ c. search needs)
     returns)

@@ -17,12 +17,9 @@ returns c =
     let a = c .before .args in
     sym (ne-eqb (bit (a .flags) (a .p)) 1 (λ e. omega (arith, bit-past 16 (a .flags) (a .p) (omega arith) (omega arith))))
 
-shr-result : tie.Need-shr-result
-shr-result c = search needs
-
 returns-2 : tie.Need-returns-2
 unfolding isSet bit
 returns-2 c = ap (λ (b : ℕ). eqb b 1) (and-mask (c .before .args .flags / 2 ^ c .before .args .p) 1)
 
 pub flagged-spec : {M : Type 1} → statement M
-flagged-spec = tie.close (tie.spec returns shr-result returns-2)
+flagged-spec = tie.close (tie.spec returns (λ c. search needs) returns-2)

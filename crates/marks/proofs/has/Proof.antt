@@ -9,14 +9,5 @@ use Rattle.marks.proofs.has.Tie as tie
 returns : tie.Need-returns
 returns c = sym (marked-past (c .before .args .t1) (c .before .args .i) (omega arith))
 
-slice-aggregate-is-marked : tie.Need-slice-aggregate-is-marked
-slice-aggregate-is-marked c = search needs
-
-is-marked-requires : tie.Need-is-marked-requires
-is-marked-requires c κs = search needs
-
-returns-2 : tie.Need-returns-2
-returns-2 c = search needs
-
 pub has-spec : {M : Type 1} → statement M
-has-spec = tie.close (tie.spec returns slice-aggregate-is-marked is-marked-requires returns-2)
+has-spec = tie.close (tie.spec returns (λ c. search needs) (λ c κs. search needs) (λ c. search needs))

@@ -10,15 +10,6 @@ use Rattle.marks.specs.Marks.{marked, mark}
 use Rattle.marks.proofs.is_marked.Statement.{statement}
 use Rattle.marks.proofs.is_marked.Tie as tie
 
-mul-result : tie.Need-mul-result
-mul-result c = search needs
-
-shared-slice-read-result : tie.Need-shared-slice-read-result
-shared-slice-read-result c = search needs
-
-shr-result : tie.Need-shr-result
-shr-result c = search needs
-
 returns : tie.Need-returns
 unfolding marked mark bit
 returns c =
@@ -26,4 +17,4 @@ returns c =
     ap (λ (b : ℕ). eqb b 1) (and-mask (getD (a .set .now) (a .i / 64) 0 / 2 ^ (a .i % 64)) 1)
 
 pub is-marked-spec : {M : Type 1} → statement M
-is-marked-spec = tie.close (tie.spec mul-result shared-slice-read-result shr-result returns)
+is-marked-spec = tie.close (tie.spec (λ c. search needs) (λ c. search needs) (λ c. search needs) returns)

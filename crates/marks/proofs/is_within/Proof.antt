@@ -23,19 +23,10 @@ loop-holds c =
     let width : 64 * length (c .args .set) ≡ 512 = omega (arith, eight c) in
     ap (λ (w : ℕ). clear (c .args .set) (c .args .bound) (w - c .args .bound)) (sym width)
 
-has-requires : tie.Need-has-requires Inv-loop μ-loop
-has-requires c κs = search needs
-
 returns : tie.Need-returns Inv-loop μ-loop
 returns c =
     let at = c .before .before .before in
     sym (clear-here (at .before .args .set) (at .loop .k) (c .before .before .loop-test .taken) (sym (c .before .has .ensures) ∙ c .if1 .taken)) ∙ at .loop .inv
-
-add-k : tie.Need-add-k Inv-loop μ-loop
-add-k c = search needs
-
-loop-less : tie.Need-loop-less Inv-loop μ-loop
-loop-less c = search needs
 
 loop-again : tie.Need-loop-again Inv-loop μ-loop
 loop-again c =
@@ -50,4 +41,4 @@ returns-2 c =
 pub is-within-spec : {M : Type 1} → statement M
 is-within-spec =
     tie.close
-    (tie.spec Inv-loop μ-loop loop-holds has-requires returns add-k loop-less loop-again returns-2)
+    (tie.spec Inv-loop μ-loop loop-holds (λ c κs. search needs) returns (λ c. search needs) (λ c. search needs) loop-again returns-2)

@@ -13,24 +13,6 @@ use Rattle.marks.specs.Marks.{withMark}
 use Rattle.marks.proofs.mark.Statement.{statement}
 use Rattle.marks.proofs.mark.Tie as tie
 
-mul-set : tie.Need-mul-set
-mul-set c = search needs
-
-slice-read-set : tie.Need-slice-read-set
-slice-read-set c = search needs
-
-shl-set : tie.Need-shl-set
-shl-set c = search needs
-
-mul-set-2 : tie.Need-mul-set-2
-mul-set-2 c = search needs
-
-slice-write-set : tie.Need-slice-write-set
-slice-write-set c = search needs
-
-same-length : tie.Need-same-length
-same-length c = search needs
-
 returns : tie.Need-returns
 unfolding withMark setBit
 returns c =
@@ -41,4 +23,4 @@ returns c =
 pub mark-spec : {M : Type 1} → statement M
 mark-spec =
     tie.close
-    (tie.spec mul-set slice-read-set shl-set mul-set-2 slice-write-set same-length returns)
+    (tie.spec (λ c. search needs) (λ c. search needs) (λ c. search needs) (λ c. search needs) (λ c. search needs) (λ c. search needs) returns)

@@ -24,12 +24,6 @@ loop-holds : tie.Need-loop-holds Inv-loop μ-loop
 unfolding onesAll
 loop-holds c = omega arith
 
-mul-sum : tie.Need-mul-sum Inv-loop μ-loop
-mul-sum c = search needs
-
-array-read-sum : tie.Need-array-read-sum Inv-loop μ-loop
-array-read-sum c = search needs
-
 fits : (c : tie.At-loop Inv-loop μ-loop) (j : ℕ) → Fits w64 (getD (c .before .args .t1) j 0)
 fits c j = search needs
 
@@ -38,12 +32,6 @@ eight c = search needs
 
 add-sum : tie.Need-add-sum Inv-loop μ-loop
 add-sum c = omega (arith, ones-le 64 _ (fits (c .before) (c .before .loop .k) .fits))
-
-add-k : tie.Need-add-k Inv-loop μ-loop
-add-k c = search needs
-
-loop-less : tie.Need-loop-less Inv-loop μ-loop
-loop-less c = search needs
 
 loop-again : tie.Need-loop-again Inv-loop μ-loop
 loop-again c =
@@ -65,10 +53,10 @@ members-spec =
     Inv-loop
     μ-loop
     loop-holds
-    mul-sum
-    array-read-sum
+    (λ c. search needs)
+    (λ c. search needs)
     add-sum
-    add-k
-    loop-less
+    (λ c. search needs)
+    (λ c. search needs)
     loop-again
     returns)

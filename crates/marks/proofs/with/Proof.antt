@@ -16,21 +16,6 @@ use Rattle.marks.proofs.with.Tie as tie
 returns : tie.Need-returns
 returns c = sym (with-past (c .before .args .set) (c .before .args .i) (omega arith))
 
-mul-s : tie.Need-mul-s
-mul-s c = search needs
-
-array-read-s : tie.Need-array-read-s
-array-read-s c = search needs
-
-shl-s : tie.Need-shl-s
-shl-s c = search needs
-
-mul-s-2 : tie.Need-mul-s-2
-mul-s-2 c = search needs
-
-array-write-s : tie.Need-array-write-s
-array-write-s c = search needs
-
 returns-2 : tie.Need-returns-2
 unfolding withMark setBit
 returns-2 c =
@@ -39,4 +24,4 @@ returns-2 c =
     (shl-exact 1 (a .i % 64) 64 (lit< tt) (omega arith) ∙ one-mul _)
 
 pub with-spec : {M : Type 1} → statement M
-with-spec = tie.close (tie.spec returns mul-s array-read-s shl-s mul-s-2 array-write-s returns-2)
+with-spec = tie.close (tie.spec returns (λ c. search needs) (λ c. search needs) (λ c. search needs) (λ c. search needs) (λ c. search needs) returns-2)

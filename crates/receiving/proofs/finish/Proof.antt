@@ -28,22 +28,10 @@ derivable c = sym (c .before .can-deliver .ensures) ∙ not-false _ (c .if2 .lef
 
 -- ---- the needs
 
-open-confirmation-requires : tie.Need-open-confirmation-requires
-open-confirmation-requires c κs = search needs
-
-enum-known-ta : tie.Need-enum-known-ta
-enum-known-ta c = search needs
-
-enum-told : tie.Need-enum-told
-enum-told c = search needs
-
 returns : tie.Need-returns
 returns c =
     let a = c .before .before .before .before .before .args in
     no-confirmation (a .h) (a .terms .now) (a .wire .now) (a .run) (a .own) (a .m) (sym (c .before .before .open-confirmation .ensures) ∙ c .enum-told .given .1)
-
-cast-if1 : tie.Need-cast-if1
-cast-if1 c = search needs
 
 returns-2 : tie.Need-returns-2
 returns-2 c =
@@ -51,9 +39,6 @@ returns-2 c =
     let a = f .before .before .before .before .before .args in
     let x = f .ta .given .0 in
     confirmation-to-another (a .h) (a .terms .now) (a .wire .now) (a .run) (a .own) (a .m) (x .0) (x .1 .0) (is f) (not-true _ (c .if1 .taken))
-
-can-deliver-requires : tie.Need-can-deliver-requires
-can-deliver-requires c κs = search needs
 
 returns-3 : tie.Need-returns-3
 returns-3 c =
@@ -64,9 +49,6 @@ returns-3 c =
     confirmation-underivable (a .h) (a .terms .now) (a .wire .now) (a .run) (a .own) (a .m) (x .0) (x .1 .0) (is f) (mine e)
     (sym (c .before .can-deliver .ensures) ∙ not-true _ (c .if2 .taken))
 
-ticket-lives-requires : tie.Need-ticket-lives-requires
-ticket-lives-requires c κs = search needs
-
 returns-4 : tie.Need-returns-4
 returns-4 c =
     let d = c .before .before in
@@ -76,9 +58,6 @@ returns-4 c =
     let x = f .ta .given .0 in
     confirmation-over (a .h) (a .terms .now) (a .wire .now) (a .run) (a .own) (a .m) (x .0) (x .1 .0) (is f) (mine e) (derivable d)
     (sym (c .before .ticket-lives .ensures) ∙ not-true _ (c .if3 .taken))
-
-finished-requires : tie.Need-finished-requires
-finished-requires c κs = search needs
 
 returns-5 : tie.Need-returns-5
 returns-5 c =
@@ -96,15 +75,15 @@ pub finish-spec : {M : Type 1} → statement M
 finish-spec =
     tie.close
     (tie.spec
-    open-confirmation-requires
-    enum-known-ta
-    enum-told
+    (λ c κs. search needs)
+    (λ c. search needs)
+    (λ c. search needs)
     returns
-    cast-if1
+    (λ c. search needs)
     returns-2
-    can-deliver-requires
+    (λ c κs. search needs)
     returns-3
-    ticket-lives-requires
+    (λ c κs. search needs)
     returns-4
-    finished-requires
+    (λ c κs. search needs)
     returns-5)

@@ -26,15 +26,6 @@ apart c = not-false _ (c .if2 .left)
 returns : tie.Need-returns
 returns c = let a = c .before .before .before .before .args in no-room-to-issue (a .h) (a .terms .now) (a .wire .now) (a .m) (c .if1 .taken)
 
-open-request-requires : tie.Need-open-request-requires
-open-request-requires c κs = search needs
-
-enum-known-a : tie.Need-enum-known-a
-enum-known-a c = search needs
-
-enum-told : tie.Need-enum-told
-enum-told c = search needs
-
 returns-2 : tie.Need-returns-2
 returns-2 c =
     let e = c .before .before .before in
@@ -49,9 +40,6 @@ returns-3 c =
     let x = f .a .given .0 in
     request-barred (a .h) (a .terms .now) (a .wire .now) (a .m) (e .if1 .left) (x .0) (x .1 .0) (x .1 .1 .0) (is f) (not-true _ (c .if2 .taken))
 
-can-deliver-requires : tie.Need-can-deliver-requires
-can-deliver-requires c κs = search needs
-
 returns-4 : tie.Need-returns-4
 returns-4 c =
     let g = c .before .before in
@@ -61,9 +49,6 @@ returns-4 c =
     let x = f .a .given .0 in
     request-underivable (a .h) (a .terms .now) (a .wire .now) (a .m) (e .if1 .left) (x .0) (x .1 .0) (x .1 .1 .0) (is f) (apart g)
     (sym (c .before .can-deliver .ensures) ∙ not-true _ (c .if3 .taken))
-
-cast-r : tie.Need-cast-r
-cast-r c = search needs
 
 cast-initiator : tie.Need-cast-initiator
 cast-initiator c =
@@ -76,9 +61,6 @@ cast-responder c =
     let f = c .before .before .before .before .before in
     let x = f .a .given .0 in
     record { fits = omega (arith, request-in-range (f .before .before .before .before .before .before .before .pre) (x .0) (x .1 .0) (x .1 .1 .0) (is f) .1) }
-
-issued-requires : tie.Need-issued-requires
-issued-requires c κs = search needs
 
 returns-5 : tie.Need-returns-5
 returns-5 c =
@@ -97,15 +79,15 @@ issue-spec =
     tie.close
     (tie.spec
     returns
-    open-request-requires
-    enum-known-a
-    enum-told
+    (λ c κs. search needs)
+    (λ c. search needs)
+    (λ c. search needs)
     returns-2
     returns-3
-    can-deliver-requires
+    (λ c κs. search needs)
     returns-4
-    cast-r
+    (λ c. search needs)
     cast-initiator
     cast-responder
-    issued-requires
+    (λ c κs. search needs)
     returns-5)

@@ -7,9 +7,6 @@ use borrow.Author.Needs.{needs}
 use Rattle.rows.proofs.is_written.Statement.{statement}
 use Rattle.rows.proofs.is_written.Tie as tie
 
-words-at-requires : tie.Need-words-at-requires
-words-at-requires c κs = search needs
-
 is-row-requires : tie.Need-is-row-requires
 is-row-requires c κs = let a = c .before .before .args in ap length (c .words-at .ensures) ∙ words-length (a .runs .now) (search needs) (a .r) (search needs)
 
@@ -17,4 +14,4 @@ returns : tie.Need-returns
 returns c = c .is-row .ensures ∙ ap isRow (c .before .words-at .ensures)
 
 pub is-written-spec : {M : Type 1} → statement M
-is-written-spec = tie.close (tie.spec words-at-requires is-row-requires returns)
+is-written-spec = tie.close (tie.spec (λ c κs. search needs) is-row-requires returns)

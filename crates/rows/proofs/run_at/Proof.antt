@@ -7,9 +7,6 @@ use borrow.Author.Needs.{needs}
 use Rattle.rows.proofs.run_at.Statement.{statement}
 use Rattle.rows.proofs.run_at.Tie as tie
 
-words-at-requires : tie.Need-words-at-requires
-words-at-requires c κs = search needs
-
 decode-requires : tie.Need-decode-requires
 decode-requires c κs = let a = c .before .before .args in ap length (c .words-at .ensures) ∙ words-length (a .runs .now) (search needs) (a .r) (search needs)
 
@@ -18,4 +15,4 @@ unfolding runAt
 returns c = c .decode .ensures ∙ ap rowOf (c .before .words-at .ensures)
 
 pub run-at-spec : {M : Type 1} → statement M
-run-at-spec = tie.close (tie.spec words-at-requires decode-requires returns)
+run-at-spec = tie.close (tie.spec (λ c κs. search needs) decode-requires returns)

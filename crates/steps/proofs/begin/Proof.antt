@@ -8,16 +8,10 @@ use Rattle.steps.proofs.begin.Tie as tie
 returns : tie.Need-returns
 returns c = let a = c .before .before .args in no-room (a .h) (a .role) (a .a) (a .b) (a .sends) (c .if1 .taken)
 
-cast-r : tie.Need-cast-r
-cast-r c = search needs
-
-opened-requires : tie.Need-opened-requires
-opened-requires c κs = search needs
-
 returns-2 : tie.Need-returns-2
 returns-2 c =
     let a = c .before .before .before .before .args in
     c .opened .ensures ∙ run-opened (a .h) (a .role) (a .a) (a .b) (a .sends) (c .before .before .if1 .left)
 
 pub begin-spec : {M : Type 1} → statement M
-begin-spec = tie.close (tie.spec returns cast-r opened-requires returns-2)
+begin-spec = tie.close (tie.spec returns (λ c. search needs) (λ c κs. search needs) returns-2)

@@ -17,28 +17,10 @@ passing c = sym (c .before .input-refusal .ensures) ∙ c .if1 .left
 
 -- ---- the needs
 
-input-refusal-requires : tie.Need-input-refusal-requires
-input-refusal-requires c κs = search needs
-
 returns : tie.Need-returns
 returns c =
     let b = c .before .before .before .before .before in
     fields-barred (lent b) (b .args .s) (c .before .input-refusal .result) (c .before .input-refusal .ensures) (c .if1 .taken)
-
-cast-t12 : tie.Need-cast-t12
-cast-t12 c = search needs
-
-cast-t13 : tie.Need-cast-t13
-cast-t13 c = search needs
-
-cast-t14 : tie.Need-cast-t14
-cast-t14 c = search needs
-
-begin-requires : tie.Need-begin-requires
-begin-requires c κs = search needs
-
-begin-requires-2 : tie.Need-begin-requires-2
-begin-requires-2 c κs = search needs
 
 issue-requires : tie.Need-issue-requires
 unfolding usesTable
@@ -46,15 +28,6 @@ issue-requires c κs =
     let e = c .before in
     let b = e .before .before .before .before .before in
     delivers (b .pre) (b .args .s) (passing e) 3 (c .match .keys3) refl
-
-tick-requires : tie.Need-tick-requires
-tick-requires c κs = search needs
-
-cast-t18 : tie.Need-cast-t18
-cast-t18 c = search needs
-
-rest-requires : tie.Need-rest-requires
-rest-requires c κs = search needs
 
 query-requires : tie.Need-query-requires
 unfolding usesTable
@@ -117,17 +90,17 @@ pub by-row-spec : {M : Type 1} → statement M
 by-row-spec =
     tie.close
     (tie.spec
-    input-refusal-requires
+    (λ c κs. search needs)
     returns
-    cast-t12
-    cast-t13
-    cast-t14
-    begin-requires
-    begin-requires-2
+    (λ c. search needs)
+    (λ c. search needs)
+    (λ c. search needs)
+    (λ c κs. search needs)
+    (λ c κs. search needs)
     issue-requires
-    tick-requires
-    cast-t18
-    rest-requires
+    (λ c κs. search needs)
+    (λ c. search needs)
+    (λ c κs. search needs)
     query-requires
     with-run-requires
     returns-2

@@ -6,14 +6,8 @@ use borrow.Author.Needs.{needs}
 use Rattle.steps.proofs.query.Statement.{statement}
 use Rattle.steps.proofs.query.Tie as tie
 
-can-deliver-requires : tie.Need-can-deliver-requires
-can-deliver-requires c κs = search needs
-
 returns : tie.Need-returns
 returns c = let a = c .before .before .before .before .args in query-denied (a .h) (a .terms .now) (a .wire .now) (a .m) (sym (c .before .can-deliver .ensures) ∙ not-true _ (c .if1 .taken))
-
-rest-requires : tie.Need-rest-requires
-rest-requires c κs = search needs
 
 returns-2 : tie.Need-returns-2
 returns-2 c =
@@ -22,4 +16,4 @@ returns-2 c =
     ∙ query-granted (a .h) (a .terms .now) (a .wire .now) (a .m) (sym (c .before .before .can-deliver .ensures) ∙ not-false _ (c .before .if1 .left))
 
 pub query-spec : {M : Type 1} → statement M
-query-spec = tie.close (tie.spec can-deliver-requires returns rest-requires returns-2)
+query-spec = tie.close (tie.spec (λ c κs. search needs) returns (λ c κs. search needs) returns-2)

@@ -8,11 +8,8 @@ use Rattle.steps.proofs.tick.Tie as tie
 returns : tie.Need-returns
 returns c = let a = c .before .before .args in clock-back (a .h) (a .t) (c .if1 .taken)
 
-rest-requires : tie.Need-rest-requires
-rest-requires c κs = search needs
-
 returns-2 : tie.Need-returns-2
 returns-2 c = let a = c .before .before .before .args in c .rest .ensures ∙ clock-set (a .h) (a .t) (c .before .if1 .left)
 
 pub tick-spec : {M : Type 1} → statement M
-tick-spec = tie.close (tie.spec returns rest-requires returns-2)
+tick-spec = tie.close (tie.spec returns (λ c κs. search needs) returns-2)

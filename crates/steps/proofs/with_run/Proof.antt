@@ -21,16 +21,10 @@ fit c = sym (c .before .fits2 .ensures) ∙ not-false _ (c .if1 .left)
 
 -- ---- the needs
 
-cast-run-at : tie.Need-cast-run-at
-cast-run-at c = search needs
-
 run-at-requires : tie.Need-run-at-requires
 run-at-requires c κs =
     let p = c .before .before .before .pre in
     (omega (arith, named-run-below (p .1), p .0 .rows-hold .room), p .0 .rows-hold .size)
-
-fits-requires : tie.Need-fits-requires
-fits-requires c κs = search needs
 
 returns : tie.Need-returns
 returns c =
@@ -55,12 +49,6 @@ unfolding usesTable
 finish-requires c κs =
     let b = c .before .before .before .before .before .before .before in
     delivers (b .pre .0) (b .args .s) (b .pre .1 .passes) 6 (c .match .keys3) refl
-
-cast-t15 : tie.Need-cast-t15
-cast-t15 c = search needs
-
-rest-requires : tie.Need-rest-requires
-rest-requires c κs = search needs
 
 returns-2 : tie.Need-returns-2
 returns-2 c =
@@ -96,15 +84,15 @@ pub with-run-spec : {M : Type 1} → statement M
 with-run-spec =
     tie.close
     (tie.spec
-    cast-run-at
+    (λ c. search needs)
     run-at-requires
-    fits-requires
+    (λ c κs. search needs)
     returns
     authenticate-requires
     accept-requires
     finish-requires
-    cast-t15
-    rest-requires
+    (λ c. search needs)
+    (λ c κs. search needs)
     returns-2
     returns-3
     returns-4

@@ -33,18 +33,9 @@ fields-is c = c .fields-ok .ensures ∙ ap (fieldsOk _ _ _) (c .before .before .
 returns : tie.Need-returns
 returns c = by-tests _ _ _ (c .before .before .args .word) (lt-ltb 6 _ (c .if1 .taken)) refl refl
 
-decode-requires : tie.Need-decode-requires
-decode-requires c κs = search needs
-
-spare-of-requires : tie.Need-spare-of-requires
-spare-of-requires c κs = search needs
-
 returns-2 : tie.Need-returns-2
 returns-2 c =
     by-tests _ _ _ _ (le-ltb 6 _ (c .before .before .before .if1 .left)) (ne-eqb _ 0 (λ z. c .if2 .taken (spare-is (c .before) ∙ z))) refl
-
-fields-ok-requires : tie.Need-fields-ok-requires
-fields-ok-requires c κs = search needs
 
 tests : (c : tie.After-fields-ok) {d : Bool} → c .fields-ok .result ≡ d
     → cond d 0 6 ≡ refusalOf (c .before .before .before .before .before .before .args .n) (c .before .before .before .before .before .before .args .terms .now)
@@ -61,4 +52,4 @@ returns-4 c = tests (c .before) (c .if3 .left)
 
 pub refusal-spec : {M : Type 1} → statement M
 refusal-spec =
-    tie.close (tie.spec returns decode-requires spare-of-requires returns-2 fields-ok-requires returns-3 returns-4)
+    tie.close (tie.spec returns (λ c κs. search needs) (λ c κs. search needs) returns-2 (λ c κs. search needs) returns-3 returns-4)

@@ -39,9 +39,6 @@ room c =
     let n = few _ _ _ _ _ _ _ _ _ s (a .pre .0 .most) in
     (n, omega (arith, n, s .short, c .loop .inv .0, c .before .before .before .write-header-line .kept .0, a .pre .1))
 
-write-header-line-requires : tie.Need-write-header-line-requires Inv-loop μ-loop
-write-header-line-requires c κs = search needs
-
 loop-holds : tie.Need-loop-holds Inv-loop μ-loop
 unfolding newTables
 loop-holds c =
@@ -54,21 +51,6 @@ loop-holds c =
       starts (a .args .file .now) (w .last .0) (a .args .h) (w .result) (a .pre .0)
           (omega (arith, w .ensures .offset, header-short)) (omega (arith, w .kept .0, a .pre .1)),
     )
-
-read-record-requires : tie.Need-read-record-requires Inv-loop μ-loop
-read-record-requires c κs = search needs
-
-enum-known-next-call : tie.Need-enum-known-next-call Inv-loop μ-loop
-enum-known-next-call c = search needs
-
-slice-aggregate-call : tie.Need-slice-aggregate-call Inv-loop μ-loop
-slice-aggregate-call c = search needs
-
-slice-aggregate-call-2 : tie.Need-slice-aggregate-call-2 Inv-loop μ-loop
-slice-aggregate-call-2 c = search needs
-
-slice-aggregate-call-3 : tie.Need-slice-aggregate-call-3 Inv-loop μ-loop
-slice-aggregate-call-3 c = search needs
 
 call-requires : tie.Need-call-requires Inv-loop μ-loop
 call-requires c κs = c .before .before .before .before .before .before .before .loop .inv .4 .together
@@ -112,9 +94,6 @@ write-file-line-requires c κs = omega (arith, room (c .before .before .before .
 
 cast-write-end-line : tie.Need-cast-write-end-line Inv-loop μ-loop
 cast-write-end-line c = omega (arith, c .before .before .before .before .before .loop .inv .4 .together .rows-hold .room)
-
-members-requires : tie.Need-members-requires Inv-loop μ-loop
-members-requires c κs = search needs
 
 cast-write-end-line-2 : tie.Need-cast-write-end-line-2 Inv-loop μ-loop
 cast-write-end-line-2 c = omega (arith, c .before .before .before .before .before .before .before .loop .inv .4 .together .entries-most)
@@ -161,13 +140,13 @@ walk-records-spec =
     (tie.spec
     Inv-loop
     μ-loop
-    write-header-line-requires
+    (λ c κs. search needs)
     loop-holds
-    read-record-requires
-    enum-known-next-call
-    slice-aggregate-call
-    slice-aggregate-call-2
-    slice-aggregate-call-3
+    (λ c κs. search needs)
+    (λ c. search needs)
+    (λ c. search needs)
+    (λ c. search needs)
+    (λ c. search needs)
     call-requires
     write-call-line-requires
     add-number
@@ -175,7 +154,7 @@ walk-records-spec =
     loop-again
     write-file-line-requires
     cast-write-end-line
-    members-requires
+    (λ c κs. search needs)
     cast-write-end-line-2
     write-end-line-requires
     same-length

@@ -11,24 +11,6 @@ known : (w k : ℕ) → kindOf w ≡ k → termBy k (leftOf w) (rightOf w) ≡ t
 unfolding termOf
 known w k e = ap (λ (n : ℕ). termBy n (leftOf w) (rightOf w)) (sym e)
 
-cast-left : tie.Need-cast-left
-cast-left c = search needs
-
-cast-right : tie.Need-cast-right
-cast-right c = search needs
-
-cast-t8 : tie.Need-cast-t8
-cast-t8 c = search needs
-
-mul-t9 : tie.Need-mul-t9
-mul-t9 c = search needs
-
-cast-t10 : tie.Need-cast-t10
-cast-t10 c = search needs
-
-add-t11 : tie.Need-add-t11
-add-t11 c = search needs
-
 returns : tie.Need-returns
 returns c = known (c .before .args .word) 0 (c .match .keys1)
 
@@ -62,12 +44,12 @@ pub decode-spec : {M : Type 1} → statement M
 decode-spec =
     tie.close
     (tie.spec
-    cast-left
-    cast-right
-    cast-t8
-    mul-t9
-    cast-t10
-    add-t11
+    (λ c. search needs)
+    (λ c. search needs)
+    (λ c. search needs)
+    (λ c. search needs)
+    (λ c. search needs)
+    (λ c. search needs)
     returns
     returns-2
     returns-3

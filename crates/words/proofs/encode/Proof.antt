@@ -5,57 +5,6 @@ use borrow.Author.Needs.{needs}
 use Rattle.words.proofs.encode.Statement.{statement}
 use Rattle.words.proofs.encode.Tie as tie
 
-enum-known-t : tie.Need-enum-known-t
-enum-known-t c = search needs
-
-pack-requires : tie.Need-pack-requires
-pack-requires c κs = search needs
-
-enum-known-t-2 : tie.Need-enum-known-t-2
-enum-known-t-2 c = search needs
-
-cast-result : tie.Need-cast-result
-cast-result c = search needs
-
-add-result : tie.Need-add-result
-add-result c = search needs
-
-enum-known-t-3 : tie.Need-enum-known-t-3
-enum-known-t-3 c = search needs
-
-pack-requires-2 : tie.Need-pack-requires-2
-pack-requires-2 c κs = search needs
-
-enum-known-t-4 : tie.Need-enum-known-t-4
-enum-known-t-4 c = search needs
-
-pack-requires-3 : tie.Need-pack-requires-3
-pack-requires-3 c κs = search needs
-
-enum-known-t-5 : tie.Need-enum-known-t-5
-enum-known-t-5 c = search needs
-
-pack-requires-4 : tie.Need-pack-requires-4
-pack-requires-4 c κs = search needs
-
-enum-known-t-6 : tie.Need-enum-known-t-6
-enum-known-t-6 c = search needs
-
-pack-requires-5 : tie.Need-pack-requires-5
-pack-requires-5 c κs = search needs
-
-enum-known-t-7 : tie.Need-enum-known-t-7
-enum-known-t-7 c = search needs
-
-pack-requires-6 : tie.Need-pack-requires-6
-pack-requires-6 c κs = search needs
-
-enum-told : tie.Need-enum-told
-enum-told c = search needs
-
-pack-requires-7 : tie.Need-pack-requires-7
-pack-requires-7 c κs = search needs
-
 returns : tie.Need-returns
 unfolding wordOf
 returns c = rw (c .before .before .t .given .1) (omega (arith, c .pack .ensures))
@@ -92,23 +41,23 @@ pub encode-spec : {M : Type 1} → statement M
 encode-spec =
     tie.close
     (tie.spec
-    enum-known-t
-    pack-requires
-    enum-known-t-2
-    cast-result
-    add-result
-    enum-known-t-3
-    pack-requires-2
-    enum-known-t-4
-    pack-requires-3
-    enum-known-t-5
-    pack-requires-4
-    enum-known-t-6
-    pack-requires-5
-    enum-known-t-7
-    pack-requires-6
-    enum-told
-    pack-requires-7
+    (λ c. search needs)
+    (λ c κs. search needs)
+    (λ c. search needs)
+    (λ c. search needs)
+    (λ c. search needs)
+    (λ c. search needs)
+    (λ c κs. search needs)
+    (λ c. search needs)
+    (λ c κs. search needs)
+    (λ c. search needs)
+    (λ c κs. search needs)
+    (λ c. search needs)
+    (λ c κs. search needs)
+    (λ c. search needs)
+    (λ c κs. search needs)
+    (λ c. search needs)
+    (λ c κs. search needs)
     returns
     returns-2
     returns-3

@@ -18,18 +18,6 @@ lent c = tables (c .args .h) (c .args .terms .now) (c .args .runs .now) (c .args
 takes : (c : tie.After-effect) → let s = c .before .before .before .before .before .before in decided (lent s) (s .args .s) ≡ Takes (c .effect .given .0 .0)
 takes c = sym (c .before .before .by-row .ensures) ∙ c .effect .given .1
 
-by-row-requires : tie.Need-by-row-requires
-by-row-requires c κs = search needs
-
-enum-known-number : tie.Need-enum-known-number
-enum-known-number c = search needs
-
-fresh-requires : tie.Need-fresh-requires
-fresh-requires c κs = search needs
-
-enum-known-effect : tie.Need-enum-known-effect
-enum-known-effect c = search needs
-
 plan-sends-requires : tie.Need-plan-sends-requires
 plan-sends-requires c κs = let s = c .before .before .before .before .before .before .before in can-send (lent s) (s .args .s) (takes (c .before)) (s .pre)
 
@@ -52,10 +40,10 @@ pub decide-spec : {M : Type 1} → statement M
 decide-spec =
     tie.close
     (tie.spec
-    by-row-requires
-    enum-known-number
-    fresh-requires
-    enum-known-effect
+    (λ c κs. search needs)
+    (λ c. search needs)
+    (λ c κs. search needs)
+    (λ c. search needs)
     plan-sends-requires
     add-all
     returns

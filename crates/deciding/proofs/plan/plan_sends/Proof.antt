@@ -11,23 +11,8 @@ use Rattle.deciding.proofs.plan.plan_sends.Tie as tie
 roots : (c : tie.After-first) → rootsOf (c .before .before .before .before .args .sends) ≡ At (c .first .given .0 .0) (c .first .given .0 .1 .0)
 roots c = sym (c .before .before .roots-of .ensures) ∙ c .first .given .1
 
-roots-of-requires : tie.Need-roots-of-requires
-roots-of-requires c κs = search needs
-
-enum-known-first : tie.Need-enum-known-first
-enum-known-first c = search needs
-
-draft-of-requires : tie.Need-draft-of-requires
-draft-of-requires c κs = search needs
-
 plan-messages-requires : tie.Need-plan-messages-requires
 plan-messages-requires c κs = let at = c .before .before in draft-plannable (at .before .before .before .before .pre) (roots at) (c .draft-of .ensures)
-
-enum-told : tie.Need-enum-told
-enum-told c = search needs
-
-fresh-requires : tie.Need-fresh-requires
-fresh-requires c κs = search needs
 
 returns : tie.Need-returns
 returns c =
@@ -42,11 +27,11 @@ pub plan-sends-spec : {M : Type 1} → statement M
 plan-sends-spec =
     tie.close
     (tie.spec
-    roots-of-requires
-    enum-known-first
-    draft-of-requires
+    (λ c κs. search needs)
+    (λ c. search needs)
+    (λ c κs. search needs)
     plan-messages-requires
-    enum-told
-    fresh-requires
+    (λ c. search needs)
+    (λ c κs. search needs)
     returns
     returns-2)

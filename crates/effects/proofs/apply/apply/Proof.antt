@@ -10,9 +10,6 @@ use Rattle.effects.proofs.apply.apply.Tie as tie
 abbrev lent : tie.Start → Tables
 lent c = tables (c .args .h) (c .args .terms .now) (c .args .runs .now) (c .args .wire .now) (c .args .cache)
 
-add-count : tie.Need-add-count
-add-count c = search needs
-
 write-messages-requires : tie.Need-write-messages-requires
 write-messages-requires c κs =
     let s = c .before .before .before .before .before .before .before .before in
@@ -30,18 +27,6 @@ cache-after-requires c κs =
     let s = c .before .before .before .before .before .before .before .before .before .before .before .before .before .before .before .before .before in
     (s .pre .0 .entries-most, entry-fits (lent s) (s .args .effect .keeping) (s .pre .1 .fits .entry))
 
-answer-of-requires : tie.Need-answer-of-requires
-answer-of-requires c κs = search needs
-
-same-length : tie.Need-same-length
-same-length c = search needs
-
-same-length-2 : tie.Need-same-length-2
-same-length-2 c = search needs
-
-same-length-3 : tie.Need-same-length-3
-same-length-3 c = search needs
-
 returns : tie.Need-returns
 returns c =
     let s = c .before .before .before .before .before .before .before .before .before .before .before .before .before .before .before .before .before .before .before .before in
@@ -52,12 +37,12 @@ pub apply-spec : {M : Type 1} → statement M
 apply-spec =
     tie.close
     (tie.spec
-    add-count
+    (λ c. search needs)
     write-messages-requires
     write-row-requires
     cache-after-requires
-    answer-of-requires
-    same-length
-    same-length-2
-    same-length-3
+    (λ c κs. search needs)
+    (λ c. search needs)
+    (λ c. search needs)
+    (λ c. search needs)
     returns)

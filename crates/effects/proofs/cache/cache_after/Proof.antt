@@ -4,20 +4,8 @@ use borrow.Author.Needs.{needs}
 use Rattle.effects.proofs.cache.cache_after.Statement.{statement}
 use Rattle.effects.proofs.cache.cache_after.Tie as tie
 
-enum-told : tie.Need-enum-told
-enum-told c = search needs
-
-enum-known-keeping : tie.Need-enum-known-keeping
-enum-known-keeping c = search needs
-
 append-requires : tie.Need-append-requires
 append-requires c κs = let s = c .before .before .before in entry-room (c .before .keeping .given .1) (s .args .h .entries) (s .pre .1)
-
-enum-known-keeping-2 : tie.Need-enum-known-keeping-2
-enum-known-keeping-2 c = search needs
-
-sweep-requires : tie.Need-sweep-requires
-sweep-requires c κs = search needs
 
 returns : tie.Need-returns
 returns c = rw (c .enum-told .given .1)
@@ -32,11 +20,11 @@ pub cache-after-spec : {M : Type 1} → statement M
 cache-after-spec =
     tie.close
     (tie.spec
-    enum-told
-    enum-known-keeping
+    (λ c. search needs)
+    (λ c. search needs)
     append-requires
-    enum-known-keeping-2
-    sweep-requires
+    (λ c. search needs)
+    (λ c κs. search needs)
     returns
     returns-2
     returns-3)

@@ -5,55 +5,34 @@ use borrow.Author.Needs.{needs}
 use Rattle.effects.proofs.row.write_row.Statement.{statement}
 use Rattle.effects.proofs.row.write_row.Tie as tie
 
-enum-known-change : tie.Need-enum-known-change
-enum-known-change c = search needs
-
 set-run-requires : tie.Need-set-run-requires
 set-run-requires c κs = let s = c .before .before .before .before .before in (next-below (s .args .count) (c .before .before .change .given .1) (s .pre .1), s .pre .0)
 
 add-result : tie.Need-add-result
 add-result c = let s = c .before .before .before .before .before .before .before .before in record { fits = omega (arith, next-below (s .args .count) (c .before .before .before .before .before .change .given .1) (s .pre .1)) }
 
-enum-known-change-2 : tie.Need-enum-known-change-2
-enum-known-change-2 c = search needs
-
-cast-set-run : tie.Need-cast-set-run
-cast-set-run c = search needs
-
 set-run-requires-2 : tie.Need-set-run-requires-2
 set-run-requires-2 c κs = let s = c .before .before .before .before .before in (row-below (s .args .count) (c .before .before .change2 .given .1) (s .pre .1), s .pre .0)
-
-enum-told : tie.Need-enum-told
-enum-told c = search needs
-
-same-length : tie.Need-same-length
-same-length c = search needs
 
 returns : tie.Need-returns
 returns c = let s = c .before .before .before .before .before .before .before .before in run-opened (s .args .count) (c .before .before .before .before .before .change .given .1) (s .args .runs .now) (c .before .before .set-run .ensures)
 
-same-length-2 : tie.Need-same-length-2
-same-length-2 c = search needs
-
 returns-2 : tie.Need-returns-2
 returns-2 c = let s = c .before .before .before .before .before .before .before .before in row-set (s .args .count) (c .before .before .before .before .before .change2 .given .1) (s .args .runs .now) (c .before .before .set-run2 .ensures)
-
-returns-3 : tie.Need-returns-3
-returns-3 c = search needs
 
 pub write-row-spec : {M : Type 1} → statement M
 write-row-spec =
     tie.close
     (tie.spec
-    enum-known-change
+    (λ c. search needs)
     set-run-requires
     add-result
-    enum-known-change-2
-    cast-set-run
+    (λ c. search needs)
+    (λ c. search needs)
     set-run-requires-2
-    enum-told
-    same-length
+    (λ c. search needs)
+    (λ c. search needs)
     returns
-    same-length-2
+    (λ c. search needs)
     returns-2
-    returns-3)
+    (λ c. search needs))

@@ -8,49 +8,19 @@ use borrow.Author.Needs.{needs}
 use Rattle.engine.proofs.call.add_term.Statement.{statement}
 use Rattle.engine.proofs.call.add_term.Tie as tie
 
-cast-add : tie.Need-cast-add
-cast-add c = search needs
-
-pack-requires : tie.Need-pack-requires
-pack-requires c κs = search needs
-
-add-requires : tie.Need-add-requires
-add-requires c κs = search needs
-
-enum-known-i : tie.Need-enum-known-i
-enum-known-i c = search needs
-
 cast-t17 : tie.Need-cast-t17
 cast-t17 c = record { fits = omega (arith, number-below (c .before .before .before .before .before .before .before .before .before .before .pre) _ (ap (λ r. addOutcome r (c .before .before .before .before .before .before .before .before .before .before .args .h .terms) (c .before .before .before .before .before .add .last .0)) (sym (c .before .i .given .1)) ∙ c .before .before .before .before .before .add .ensures)) }
 
-enum-known-i-2 : tie.Need-enum-known-i-2
-enum-known-i-2 c = search needs
-
-add-next : tie.Need-add-next
-add-next c = search needs
-
 cast-t19 : tie.Need-cast-t19
 cast-t19 c = record { fits = omega (arith, number-below (c .before .before .before .before .before .before .before .before .before .before .pre) _ (ap (λ r. addOutcome r (c .before .before .before .before .before .before .before .before .before .before .args .h .terms) (c .before .before .before .before .before .add .last .0)) (sym (c .before .i2 .given .1)) ∙ c .before .before .before .before .before .add .ensures)) }
-
-enum-known-number : tie.Need-enum-known-number
-enum-known-number c = search needs
-
-same-length : tie.Need-same-length
-same-length c = search needs
 
 returns : tie.Need-returns
 returns c = let a = c .before .before .before .before .before .before .before .before .before .before .args in
     ap (adding (a .h)) (ap (λ r. addOutcome r (a .h .terms) (c .before .before .before .before .before .add .last .0)) (sym (c .before .i .given .1)) ∙ c .before .before .before .before .before .add .ensures ∙ ap (addOf (a .h .n) (a .terms .now) (a .h .terms)) (c .before .before .before .before .before .before .pack .ensures))
 
-same-length-2 : tie.Need-same-length-2
-same-length-2 c = search needs
-
 returns-2 : tie.Need-returns-2
 returns-2 c = let a = c .before .before .before .before .before .before .before .before .before .before .args in
     ap (adding (a .h)) (one-more _ (a .h .terms) _ ∙ ap (λ r. addOutcome r (a .h .terms) (c .before .before .before .before .before .add .last .0)) (sym (c .before .i2 .given .1)) ∙ c .before .before .before .before .before .add .ensures ∙ ap (addOf (a .h .n) (a .terms .now) (a .h .terms)) (c .before .before .before .before .before .before .pack .ensures))
-
-same-length-3 : tie.Need-same-length-3
-same-length-3 c = search needs
 
 returns-3 : tie.Need-returns-3
 returns-3 c = let a = c .before .before .before .before .before .before .before .before .before .before .args in
@@ -60,18 +30,18 @@ pub add-term-spec : {M : Type 1} → statement M
 add-term-spec =
     tie.close
     (tie.spec
-    cast-add
-    pack-requires
-    add-requires
-    enum-known-i
+    (λ c. search needs)
+    (λ c κs. search needs)
+    (λ c κs. search needs)
+    (λ c. search needs)
     cast-t17
-    enum-known-i-2
-    add-next
+    (λ c. search needs)
+    (λ c. search needs)
     cast-t19
-    enum-known-number
-    same-length
+    (λ c. search needs)
+    (λ c. search needs)
     returns
-    same-length-2
+    (λ c. search needs)
     returns-2
-    same-length-3
+    (λ c. search needs)
     returns-3)

@@ -7,34 +7,10 @@ use borrow.Author.Needs.{needs}
 use Rattle.engine.proofs.call.call.Statement.{statement}
 use Rattle.engine.proofs.call.call.Tie as tie
 
-enum-known-c : tie.Need-enum-known-c
-enum-known-c c = search needs
-
-add-term-requires : tie.Need-add-term-requires
-add-term-requires c κs = search needs
-
-enum-known-c-2 : tie.Need-enum-known-c-2
-enum-known-c-2 c = search needs
-
-take-step-requires : tie.Need-take-step-requires
-take-step-requires c κs = search needs
-
-same-length : tie.Need-same-length
-same-length c = search needs
-
 returns : tie.Need-returns
 returns c = let a = c .before .before .before .before .before .before .before .before .before .before .before .args in
     term-called (tables (a .h) (a .terms .now) (a .runs .now) (a .wire .now) (a .cache)) _ _ _ (c .before .before .before .add-term .ensures)
     ∙ ap (called (tables (a .h) (a .terms .now) (a .runs .now) (a .wire .now) (a .cache))) (sym (c .before .before .before .before .before .before .c .given .1))
-
-same-length-2 : tie.Need-same-length-2
-same-length-2 c = search needs
-
-same-length-3 : tie.Need-same-length-3
-same-length-3 c = search needs
-
-same-length-4 : tie.Need-same-length-4
-same-length-4 c = search needs
 
 returns-2 : tie.Need-returns-2
 returns-2 c = let a = c .before .before .before .before .before .before .before .before .before .before .before .before .before .before .before .before .args in
@@ -45,13 +21,13 @@ pub call-spec : {M : Type 1} → statement M
 call-spec =
     tie.close
     (tie.spec
-    enum-known-c
-    add-term-requires
-    enum-known-c-2
-    take-step-requires
-    same-length
+    (λ c. search needs)
+    (λ c κs. search needs)
+    (λ c. search needs)
+    (λ c κs. search needs)
+    (λ c. search needs)
     returns
-    same-length-2
-    same-length-3
-    same-length-4
+    (λ c. search needs)
+    (λ c. search needs)
+    (λ c. search needs)
     returns-2)

@@ -11,15 +11,9 @@ returns c = let a = c .before .args in too-few (a .n) (a .flags) (a .ls) (a .la)
 returns-2 : tie.Need-returns-2
 returns-2 c = let a = c .before .before .args in too-many (a .n) (a .flags) (a .ls) (a .la) (c .if2 .taken)
 
-shr-above : tie.Need-shr-above
-shr-above c = search needs
-
-flagged-requires : tie.Need-flagged-requires
-flagged-requires c κs = search needs
-
 returns-3 : tie.Need-returns-3
 returns-3 c = let a = c .before .before .before .args in
     rw (c .flagged .ensures) (in-limits (a .n) (a .flags) (a .ls) (a .la) (omega arith) (omega arith))
 
 pub header-fits-spec : {M : Type 1} → statement M
-header-fits-spec = tie.close (tie.spec returns returns-2 shr-above flagged-requires returns-3)
+header-fits-spec = tie.close (tie.spec returns returns-2 (λ c. search needs) (λ c κs. search needs) returns-3)

@@ -6,9 +6,6 @@ use borrow.Author.Needs.{needs}
 use Rattle.realm.proofs.header.open_realm.Statement.{statement}
 use Rattle.realm.proofs.header.open_realm.Tie as tie
 
-header-fits-requires : tie.Need-header-fits-requires
-header-fits-requires c κs = search needs
-
 returns : tie.Need-returns
 returns c = let a = c .before .before .args in not-opened (a .n) (a .flags) (a .ls) (a .la) (sym (c .before .header-fits .ensures) ∙ not-true _ (c .if1 .taken))
 
@@ -16,4 +13,4 @@ returns-2 : tie.Need-returns-2
 returns-2 c = let a = c .before .before .args in opened (a .n) (a .flags) (a .ls) (a .la) (sym (c .before .header-fits .ensures) ∙ not-false _ (c .if1 .left))
 
 pub open-realm-spec : {M : Type 1} → statement M
-open-realm-spec = tie.close (tie.spec header-fits-requires returns returns-2)
+open-realm-spec = tie.close (tie.spec (λ c κs. search needs) returns returns-2)

@@ -14,18 +14,9 @@ returns c = let a = c .before .args in no-step-below (a .h) (a .s) (c .if1 .take
 returns-2 : tie.Need-returns-2
 returns-2 c = let a = c .before .before .args in no-step-above (a .h) (a .s) (c .if2 .taken)
 
-used-by-requires : tie.Need-used-by-requires
-used-by-requires c κs = search needs
-
-unused-zero-requires : tie.Need-unused-zero-requires
-unused-zero-requires c κs = search needs
-
 returns-3 : tie.Need-returns-3
 returns-3 c = let a = c .before .before .before .before .before .args in
     not-zero (a .h) (a .s) (omega arith) (omega arith) (ap (λ u. unusedZero u (a .s)) (sym (c .before .before .used-by .ensures)) ∙ sym (c .before .unused-zero .ensures) ∙ not-true _ (c .if3 .taken))
-
-in-range-requires : tie.Need-in-range-requires
-in-range-requires c κs = search needs
 
 returns-4 : tie.Need-returns-4
 returns-4 c = let a = c .before .before .before .before .before .before .before .args in
@@ -45,9 +36,9 @@ input-refusal-spec =
     (tie.spec
     returns
     returns-2
-    used-by-requires
-    unused-zero-requires
+    (λ c κs. search needs)
+    (λ c κs. search needs)
     returns-3
-    in-range-requires
+    (λ c κs. search needs)
     returns-4
     returns-5)

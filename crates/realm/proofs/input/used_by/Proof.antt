@@ -8,15 +8,9 @@ use Rattle.realm.proofs.input.used_by.Tie as tie
 returns : tie.Need-returns
 returns c = sym (past-uses (c .before .args .step) (c .if1 .taken))
 
-mul-result : tie.Need-mul-result
-mul-result c = search needs
-
-array-copy-out-result : tie.Need-array-copy-out-result
-array-copy-out-result c = search needs
-
 returns-2 : tie.Need-returns-2
 unfolding usesTable
 returns-2 c = refl
 
 pub used-by-spec : {M : Type 1} → statement M
-used-by-spec = tie.close (tie.spec returns mul-result array-copy-out-result returns-2)
+used-by-spec = tie.close (tie.spec returns (λ c. search needs) (λ c. search needs) returns-2)

@@ -28,24 +28,6 @@ answered c =
       c .entries-hold .ensures,
     )
 
-header-fits-requires : tie.Need-header-fits-requires
-header-fits-requires c κs = search needs
-
-cast-holds-together : tie.Need-cast-holds-together
-cast-holds-together c = search needs
-
-holds-together-requires : tie.Need-holds-together-requires
-holds-together-requires c κs = search needs
-
-rows-hold-requires : tie.Need-rows-hold-requires
-rows-hold-requires c κs = search needs
-
-wire-holds-requires : tie.Need-wire-holds-requires
-wire-holds-requires c κs = search needs
-
-entries-hold-requires : tie.Need-entries-hold-requires
-entries-hold-requires c κs = search needs
-
 returns : tie.Need-returns
 returns c = (answered c, λ e. together-is _ (narrow c) (c .before .wire-holds .ensures .1) (sixteen c) (sym (answered c) ∙ e))
 
@@ -53,10 +35,10 @@ pub tables-hold-spec : {M : Type 1} → statement M
 tables-hold-spec =
     tie.close
     (tie.spec
-    header-fits-requires
-    cast-holds-together
-    holds-together-requires
-    rows-hold-requires
-    wire-holds-requires
-    entries-hold-requires
+    (λ c κs. search needs)
+    (λ c. search needs)
+    (λ c κs. search needs)
+    (λ c κs. search needs)
+    (λ c κs. search needs)
+    (λ c κs. search needs)
     returns)

@@ -10,15 +10,9 @@ use Rattle.realm.proofs.tables.wire_holds.Tie as tie
 returns : tie.Need-returns
 returns c = (other-words _ _ (c .if1 .taken), λ k. c .before .shared-slice-known .given k .fits)
 
-load-requires : tie.Need-load-requires
-load-requires c κs = search needs
-
-is-within-requires : tie.Need-is-within-requires
-is-within-requires c κs = search needs
-
 returns-2 : tie.Need-returns-2
 returns-2 c = let a = c .before .before .before .before .args in
     (c .is-within .ensures ∙ ap (λ ws. within ws (a .count)) (c .before .load .ensures .0) ∙ eight-words (a .wire .now) (a .count) (omega arith), c .before .load .ensures .1 .fit)
 
 pub wire-holds-spec : {M : Type 1} → statement M
-wire-holds-spec = tie.close (tie.spec returns load-requires is-within-requires returns-2)
+wire-holds-spec = tie.close (tie.spec returns (λ c κs. search needs) (λ c κs. search needs) returns-2)

@@ -7,11 +7,8 @@ use Rattle.records.proofs.field.begins_with.Tie as tie
 returns : tie.Need-returns
 returns c = let a = c .before .before .args in begins-not (a .mark) (a .width) (a .bytes .now) (c .if1 .taken)
 
-u16-at-requires : tie.Need-u16-at-requires
-u16-at-requires c κs = search needs
-
 returns-2 : tie.Need-returns-2
 returns-2 c = let a = c .before .before .before .args in begins-by (a .mark) (a .width) (a .bytes .now) (c .before .if1 .left) (c .u16-at .ensures)
 
 pub begins-with-spec : {M : Type 1} → statement M
-begins-with-spec = tie.close (tie.spec returns u16-at-requires returns-2)
+begins-with-spec = tie.close (tie.spec returns (λ c κs. search needs) returns-2)

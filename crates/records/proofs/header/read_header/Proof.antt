@@ -10,9 +10,6 @@ use Rattle.records.proofs.header.read_header.Tie as tie
 returns : tie.Need-returns
 returns c = let a = c .before .before .args in header-long (a .file .now) (c .if1 .taken)
 
-begins-with-requires : tie.Need-begins-with-requires
-begins-with-requires c κs = search needs
-
 returns-2 : tie.Need-returns-2
 returns-2 c =
     let a = c .before .before .before .before .args in
@@ -30,4 +27,4 @@ returns-3 c =
 
 pub read-header-spec : {M : Type 1} → statement M
 read-header-spec =
-    tie.close (tie.spec returns begins-with-requires returns-2 header-of-requires returns-3)
+    tie.close (tie.spec returns (λ c κs. search needs) returns-2 header-of-requires returns-3)

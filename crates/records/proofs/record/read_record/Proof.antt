@@ -9,25 +9,10 @@ use Rattle.records.proofs.record.read_record.Tie as tie
 returns : tie.Need-returns
 returns c = let a = c .before .before .args in record-end (a .file .now) (a .at) (c .if1 .taken)
 
-sub-rest : tie.Need-sub-rest
-sub-rest c = search needs
-
-part-rest-start : tie.Need-part-rest-start
-part-rest-start c = search needs
-
-part-rest-end : tie.Need-part-rest-end
-part-rest-end c = search needs
-
-begins-with-requires : tie.Need-begins-with-requires
-begins-with-requires c κs = search needs
-
 term-of-requires : tie.Need-term-of-requires
 term-of-requires c κs =
     let a = c .before .before .before .before .before .args in
     begins-whole termMark termBytes (restOf (a .file .now) (a .at)) (sym (c .before .begins-with .ensures) ∙ c .if2 .taken)
-
-add-t11 : tie.Need-add-t11
-add-t11 c = search needs
 
 returns-2 : tie.Need-returns-2
 returns-2 c =
@@ -37,16 +22,10 @@ returns-2 c =
     (front-term (restOf (a .file .now) (a .at)) (rest-some (a .file .now) (a .at) (search needs))
     (sym (b .before .begins-with .ensures) ∙ b .if2 .taken) (c .term-of .ensures))
 
-begins-with-requires-2 : tie.Need-begins-with-requires-2
-begins-with-requires-2 c κs = search needs
-
 step-of-requires : tie.Need-step-of-requires
 step-of-requires c κs =
     let a = c .before .before .before .before .before .before .before .args in
     begins-whole stepMark stepBytes (restOf (a .file .now) (a .at)) (sym (c .before .begins-with2 .ensures) ∙ c .if3 .taken)
-
-add-t13 : tie.Need-add-t13
-add-t13 c = search needs
 
 returns-3 : tie.Need-returns-3
 returns-3 c =
@@ -70,15 +49,15 @@ read-record-spec =
     tie.close
     (tie.spec
     returns
-    sub-rest
-    part-rest-start
-    part-rest-end
-    begins-with-requires
+    (λ c. search needs)
+    (λ c. search needs)
+    (λ c. search needs)
+    (λ c κs. search needs)
     term-of-requires
-    add-t11
+    (λ c. search needs)
     returns-2
-    begins-with-requires-2
+    (λ c κs. search needs)
     step-of-requires
-    add-t13
+    (λ c. search needs)
     returns-3
     returns-4)

@@ -24,9 +24,6 @@ mul-x c = omega arith
 array-copy-out-x : tie.Need-array-copy-out-x Inv-loop μ-loop
 array-copy-out-x c = omega arith
 
-equal-requires : tie.Need-equal-requires Inv-loop μ-loop
-equal-requires c κs = search needs
-
 returns : tie.Need-returns Inv-loop μ-loop
 returns c =
     let s = c .before .before .before .before .before in
@@ -62,7 +59,7 @@ find-spec =
     loop-holds
     mul-x
     array-copy-out-x
-    equal-requires
+    (λ c κs. search needs)
     returns
     add-i
     loop-less

@@ -6,17 +6,11 @@ use borrow.Author.Needs.{needs}
 use Rattle.replay.proofs.cache.forget.Statement.{statement}
 use Rattle.replay.proofs.cache.forget.Tie as tie
 
-refuse-requires : tie.Need-refuse-requires
-refuse-requires c κs = search needs
-
 returns : tie.Need-returns
 returns c = let a = c .before .before .args in c .refuse .ensures ∙ sym (forgotten-10 (a .places) (a .count) (a .p) (misfit-count (a .places) (a .count) (c .before .if1 .taken)))
-
-sweep-requires : tie.Need-sweep-requires
-sweep-requires c κs = search needs
 
 returns-2 : tie.Need-returns-2
 returns-2 c = let a = c .before .before .before .args in ap done (c .before .sweep .ensures) ∙ sym (forgotten-ok (a .places) (a .count) (a .p) (fits-is (a .places) (a .count) (search needs) (c .before .before .if1 .left)))
 
 pub forget-spec : {M : Type 1} → statement M
-forget-spec = tie.close (tie.spec refuse-requires returns sweep-requires returns-2)
+forget-spec = tie.close (tie.spec (λ c κs. search needs) returns (λ c κs. search needs) returns-2)

@@ -5,9 +5,6 @@ use borrow.Author.Needs.{needs}
 use Rattle.replay.proofs.cache.refusal.Statement.{statement}
 use Rattle.replay.proofs.cache.refusal.Tie as tie
 
-find-requires : tie.Need-find-requires
-find-requires c κs = search needs
-
 returns : tie.Need-returns
 returns c = let a = c .before .before .args in refusal-18 (a .places) (a .count) (a .e) (sym (c .before .find .ensures) ∙ c .if1 .taken)
 
@@ -18,4 +15,4 @@ returns-3 : tie.Need-returns-3
 returns-3 c = let a = c .before .before .before .args in refusal-none (a .places) (a .count) (a .e) (sym (c .before .before .find .ensures) ∙ c .before .if1 .left) (c .if2 .left)
 
 pub refusal-spec : {M : Type 1} → statement M
-refusal-spec = tie.close (tie.spec find-requires returns returns-2 returns-3)
+refusal-spec = tie.close (tie.spec (λ c κs. search needs) returns returns-2 returns-3)

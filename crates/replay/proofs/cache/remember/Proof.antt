@@ -11,17 +11,8 @@ use Rattle.replay.proofs.cache.remember.Tie as tie
 none : (c : tie.Else2) → let a = c .before .before .before .args in cacheRefusal (a .places) (a .count) (a .e) ≡ 0
 none c = sym (c .before .refusal .ensures) ∙ c .if2 .left
 
-refuse-requires : tie.Need-refuse-requires
-refuse-requires c κs = search needs
-
 returns : tie.Need-returns
 returns c = let a = c .before .before .args in c .refuse .ensures ∙ sym (remembered-10 (a .places) (a .count) (a .e) (misfit-count (a .places) (a .count) (c .before .if1 .taken)))
-
-refusal-requires : tie.Need-refusal-requires
-refusal-requires c κs = search needs
-
-refuse-requires-2 : tie.Need-refuse-requires-2
-refuse-requires-2 c κs = search needs
 
 returns-2 : tie.Need-returns-2
 returns-2 c =
@@ -44,10 +35,10 @@ pub remember-spec : {M : Type 1} → statement M
 remember-spec =
     tie.close
     (tie.spec
-    refuse-requires
+    (λ c κs. search needs)
     returns
-    refusal-requires
-    refuse-requires-2
+    (λ c κs. search needs)
+    (λ c κs. search needs)
     returns-2
     append-requires
     returns-3)

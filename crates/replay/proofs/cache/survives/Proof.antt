@@ -7,18 +7,6 @@ use borrow.Author.Tests.{ne-eqb}
 use Rattle.replay.proofs.cache.survives.Statement.{statement}
 use Rattle.replay.proofs.cache.survives.Tie as tie
 
-cast-result : tie.Need-cast-result
-cast-result c = search needs
-
-cast-result-2 : tie.Need-cast-result-2
-cast-result-2 c = search needs
-
-cast-result-3 : tie.Need-cast-result-3
-cast-result-3 c = search needs
-
-add-result : tie.Need-add-result
-add-result c = search needs
-
 returns : tie.Need-returns
 returns c = let a = c .before .before .before .args in ap not (ne-eqb (a .x .b) (a .p .b) (c .if1 .taken)) ∙ sym (stays-other (a .p) (a .x) (c .if1 .taken))
 
@@ -27,4 +15,4 @@ returns-2 c = let a = c .before .before .before .before .before .before .args in
 
 pub survives-spec : {M : Type 1} → statement M
 survives-spec =
-    tie.close (tie.spec cast-result cast-result-2 cast-result-3 add-result returns returns-2)
+    tie.close (tie.spec (λ c. search needs) (λ c. search needs) (λ c. search needs) (λ c. search needs) returns returns-2)

@@ -32,9 +32,6 @@ mul-next c = omega arith
 array-set-from-next : tie.Need-array-set-from-next Inv-loop μ-loop
 array-set-from-next c = omega arith
 
-survives-requires : tie.Need-survives-requires Inv-loop μ-loop
-survives-requires c κs = search needs
-
 mul-next-2 : tie.Need-mul-next-2 Inv-loop μ-loop
 mul-next-2 c = omega arith
 
@@ -83,7 +80,7 @@ sweep-spec =
     array-copy-out-x
     mul-next
     array-set-from-next
-    survives-requires
+    (λ c κs. search needs)
     mul-next-2
     array-set-from-next-2
     add-left

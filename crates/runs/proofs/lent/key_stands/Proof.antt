@@ -10,18 +10,6 @@ use borrow.Author.Needs.{needs}
 use Rattle.runs.proofs.lent.key_stands.Statement.{statement}
 use Rattle.runs.proofs.lent.key_stands.Tie as tie
 
-encode-requires : tie.Need-encode-requires
-encode-requires c κs = search needs
-
-find-requires : tie.Need-find-requires
-find-requires c κs = search needs
-
-enum-told : tie.Need-enum-told
-enum-told c = search needs
-
-enum-told-2 : tie.Need-enum-told-2
-enum-told-2 c = search needs
-
 -- what `find` answers says whether the key stands
 by-found : (c : tie.After-find) {f : Found} → c .find .result ≡ f → let a = c .before .before .before .args in not (isNothing f) ≡ keyStands (a .terms .now) (a .present) (a .k)
 by-found c {f} e =
@@ -36,4 +24,4 @@ returns-2 c = by-found (c .before .before) (c .enum-told2 .given .1)
 
 pub key-stands-spec : {M : Type 1} → statement M
 key-stands-spec =
-    tie.close (tie.spec encode-requires find-requires enum-told enum-told-2 returns returns-2)
+    tie.close (tie.spec (λ c κs. search needs) (λ c κs. search needs) (λ c. search needs) (λ c. search needs) returns returns-2)

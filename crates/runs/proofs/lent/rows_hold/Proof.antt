@@ -30,21 +30,12 @@ returns-3 c = refused _ _ _ _ _ (λ v. omega (arith, v .terms-room))
 loop-holds : tie.Need-loop-holds Inv-loop μ-loop
 loop-holds c = (search needs, λ k h. absurd (omega arith))
 
-row-holds-requires : tie.Need-row-holds-requires Inv-loop μ-loop
-row-holds-requires c κs = search needs
-
 returns-4 : tie.Need-returns-4 Inv-loop μ-loop
 returns-4 c =
     let r = c .before .before .before .loop .r in
     let h = c .before .before .loop-test .taken in
     refused _ _ _ _ _
     (λ v. no-true (sym (not-true _ (c .if4 .taken)) ∙ c .before .row-holds .ensures ∙ is-row _ _ _ _ r (v .written r h) (v .holds r h)))
-
-add-r : tie.Need-add-r Inv-loop μ-loop
-add-r c = search needs
-
-loop-less : tie.Need-loop-less Inv-loop μ-loop
-loop-less c = search needs
 
 loop-again : tie.Need-loop-again Inv-loop μ-loop
 loop-again c =
@@ -63,9 +54,9 @@ rows-hold-spec =
     returns-2
     returns-3
     loop-holds
-    row-holds-requires
+    (λ c κs. search needs)
     returns-4
-    add-r
-    loop-less
+    (λ c. search needs)
+    (λ c. search needs)
     loop-again
     returns-5)

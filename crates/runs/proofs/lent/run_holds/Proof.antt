@@ -4,18 +4,6 @@ use borrow.Author.Needs.{needs}
 use Rattle.runs.proofs.lent.run_holds.Statement.{statement}
 use Rattle.runs.proofs.lent.run_holds.Tie as tie
 
-principals-fit-requires : tie.Need-principals-fit-requires
-principals-fit-requires c κs = search needs
-
-has-stage-requires : tie.Need-has-stage-requires
-has-stage-requires c κs = search needs
-
-cast-result : tie.Need-cast-result
-cast-result c = search needs
-
-key-holds-requires : tie.Need-key-holds-requires
-key-holds-requires c κs = search needs
-
 returns : tie.Need-returns
 unfolding runHolds
 returns c = rw (c .before .before .principals-fit .ensures, c .before .has-stage .ensures, c .key-holds .ensures)
@@ -23,4 +11,4 @@ returns c = rw (c .before .before .principals-fit .ensures, c .before .has-stage
 pub run-holds-spec : {M : Type 1} → statement M
 run-holds-spec =
     tie.close
-    (tie.spec principals-fit-requires has-stage-requires cast-result key-holds-requires returns)
+    (tie.spec (λ c κs. search needs) (λ c κs. search needs) (λ c. search needs) (λ c κs. search needs) returns)

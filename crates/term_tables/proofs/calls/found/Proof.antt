@@ -6,18 +6,9 @@ use lib.Seq.{length-take-le}
 use Rattle.term_tables.proofs.calls.found.Statement.{statement}
 use Rattle.term_tables.proofs.calls.found.Tie as tie
 
-least-requires : tie.Need-least-requires
-least-requires c κs = search needs
-
 slice-aggregate-find-term : tie.Need-slice-aggregate-find-term
 slice-aggregate-find-term c = sym (length-take-le _ _ (omega arith))
 
-find-term-requires : tie.Need-find-term-requires
-find-term-requires c κs = search needs
-
-returns : tie.Need-returns
-returns c = search needs
-
 pub found-spec : {M : Type 1} → statement M
 found-spec =
-    tie.close (tie.spec least-requires slice-aggregate-find-term find-term-requires returns)
+    tie.close (tie.spec (λ c κs. search needs) slice-aggregate-find-term (λ c κs. search needs) (λ c. search needs))
