@@ -19,8 +19,9 @@ use Rattle.effects.specs.Kept as kept
 use Rattle.effects.specs.Numbers as numbers
 -- ---- laws passed on
 
--- remember and forget are what the steps do: where step 5 or 8 is accepted, the cache is as the thin call leaves it
-pub use Rattle.effects.specs.ThinCalls.{cacheLeft, step-5-remembers, step-8-forgets}
+-- remember and forget are what the steps do: where step 5 or 8 is accepted, the cache is as the thin call leaves it, and where
+-- nothing but the cache bars step 5, its refusal is the thin call's
+pub use Rattle.effects.specs.ThinCalls.{cacheLeft, step-5-remembers, step-8-forgets, step-5-refuses}
 
 -- no effect changes the header
 pub header-stays : (t : Tables) (x : Effect) → header (applied t x .tables .realm) ≡ header (t .realm)

@@ -1,16 +1,22 @@
 -- Remember and forget are what the steps do: where step 5 or step 8 is accepted, the count and the places of the cache are those
--- that the thin call leaves.
+-- that the thin call leaves; where nothing but the cache bars step 5, its refusal is the thin call's.
 -- Assumes nothing.
-use Prim.Native.Nat.{ℕ, _<_}
+use Prim.Native.Nat.{ℕ, _+_, _<_}
 use mathlib.Core.Path.{_≡_, refl, sym, ap, _∙_}
 use mathlib.Core.Bool.{true}
+use mathlib.Core.Logic.{_≢_}
 use native.Mathlib.Omega.{arith}
+use lib.Dec.{eqb}
+use borrow.Author.Tests.{ne-eqb}
 use Rattle.terms.specs.Choice.{no-true}
 use Rattle.terms.specs.Meaning.{messageAt}
 use Rattle.terms.specs.Message.{pair}
+use Rattle.exchange.specs.declared.call.Answer.the-variants as answers
 use Rattle.exchange.specs.declared.call.Call.{Call}
 use Rattle.exchange.specs.declared.call.Call.the-variants as calls
 use Rattle.exchange.specs.Calls.{accepts}
+use Rattle.exchange.specs.declared.run.Role.the-variants.{Responder}
+use Rattle.exchange.specs.declared.run.Stage.the-variants.{Opened}
 use Rattle.kerberos.specs.Log.{Event}
 use Rattle.kerberos.specs.Messages.{ticket, authenticator}
 use Rattle.replay.specs.Cache.{CacheOutcome, accepted, done, fits, remembered, forgotten}
@@ -22,13 +28,14 @@ use Rattle.realm.specs.Tables.{Tables, Together}
 use Rattle.decisions.specs.declared.Effect.{Effect}
 use Rattle.decisions.specs.declared.Verdict.{Verdict}
 use Rattle.decisions.specs.declared.Verdict.the-variants.{Takes, Refused}
-use Rattle.decisions.specs.Decision.{decision}
-use Rattle.decisions.specs.Laws.Took.{rowAt, Took, TookAs, took5, took8}
+use Rattle.decisions.specs.Decision.{need, roomed, decision}
+use Rattle.decisions.specs.Laws.Took.{rowAt, Meets, Brings, Took, TookAs, took5, took8}
 use Rattle.decisions.specs.Laws.Verdict.{decision-takes}
-use Rattle.decisions.specs.Promises.{taken-as}
+use Rattle.decisions.specs.Promises.{taken-as, remembers, delivered}
 use Rattle.effects.specs.Apply.{applied}
 use Rattle.effects.specs.Cache.{cacheOf}
 use Rattle.effects.specs.Call.{byVerdict, stepped, called}
+use Rattle.effects.specs.Kept.{step-refused}
 
 module _ (t : Tables) (w : Together t) where
   -- the count and the places of the cache after a call, as the two calls tell them
@@ -81,3 +88,17 @@ module _ (t : Tables) (w : Together t) where
         → forgotten (t .cache) (t .realm .entries) (record { b = b; clock = t .realm .clock; la = t .realm .la }) ≡ cacheLeft c
     unfolding called stepped
     step-8-forgets = by-effect (fields 8) _ (decision t (fields 8)) refl (λ x k. took-forgets (k .took))
+
+  -- "18 | b, K, Ta is in the cache", "19 | the cache holds 16 entries": a delivery that none of 4 to 17 bars has the number that
+  -- `remember` of b, K and Ta answers, where it answers one
+  pub step-5-refuses : (r m k ts ta : ℕ) → Meets t r Responder Opened → Brings t m (pair (ticket k (rowAt t r .a) ts (rowAt t r .b)) (authenticator (rowAt t r .a) ta k))
+      → t .realm .clock < ts + t .realm .ls → t .realm .clock < ta + t .realm .la → let number = remembers t w (rowAt t r .b) k ta in
+      number ≢ 0 → called t (calls.Step 5 r 0 0 m 0) .answer ≡ answers.Refused number
+  unfolding called decision
+  step-5-refuses r m k ts ta v d l o n =
+      let number = remembers t w (rowAt t r .b) k ta in
+      let s : Step = record { step = 5; run = r; a = 0; b = 0; m = m; t = 0 } in
+      step-refused t s .1 (ap (roomed t) (delivered t w r m k ts ta v d l o ∙ barred number _ n))
+    where
+      barred : (number : ℕ) (v : Verdict) → number ≢ 0 → need (eqb number 0) number v ≡ Refused number
+      barred number v n = rw (ne-eqb number 0 n)

@@ -173,7 +173,7 @@ module _ (t : Tables) (fits : Together t) where
   unfolding stepOf usesTable needTable
   delivered r m k ts ta w d l o =
       decided-by (fields 5 r 0 0 m 0) (omega arith) (omega arith) refl (takes-in 5 r m (w .below) (d .below))
-      (met _ 11 _ (w .at) (takes-on r m k ts ta d l o))
+      (met _ _ _ (w .at) (takes-on r m k ts ta d l o))
 
   took-by : {step r a b m now : ℕ} {e : Event} {x : Effect} → Took t (calls.Step step r a b m now) e x → decided t (fields step r a b m now) ≡ Takes x
   unfolding stepOf usesTable needTable opensRun ticks queries
