@@ -2,4 +2,5 @@
 pub mod Promises
 pub mod Effects
 pub mod Decision
+pub mod Refusals
 pub mod Laws

@@ -15,10 +15,11 @@ use Rattle.decisions.specs.declared.Verdict.the-variants.{Takes, Refused
 use Rattle.decisions.specs.Decision.{decided, decision}
 use Rattle.decisions.specs.Laws.Exact.{took-decided}
 use Rattle.decisions.specs.Laws.Fits.{EffectFits, took-fits}
-use Rattle.decisions.specs.Laws.Refusals.{refusalsOf, allOf, askedFor, Tells, tells}
+use Rattle.decisions.specs.Laws.Refusals.{askedFor, Tells, tells}
 use Rattle.decisions.specs.Laws.Took.{Brings, TookAs}
 use Rattle.decisions.specs.Laws.Underivable.{Reached, told, told-back}
 use Rattle.decisions.specs.Laws.Verdict as verdicts
+use Rattle.decisions.specs.Refusals.{refusalsOf, allOf}
 -- ---- laws passed on
 
 -- "remember then 18 or 19 as in step 5": a delivery that none of 4 to 17 bars is refused with the number that `remember` of b, K

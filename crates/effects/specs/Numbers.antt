@@ -17,8 +17,8 @@ use Rattle.exchange.specs.declared.call.Call.the-variants as calls
 use Rattle.traces.specs.Lists.{_∈_, here, there}
 use Rattle.realm.specs.declared.input.Step.{Step}
 use Rattle.realm.specs.Tables.{Tables}
-use Rattle.decisions.specs.Laws.Refusals.{allOf}
 use Rattle.decisions.specs.Promises.{step-refusals}
+use Rattle.decisions.specs.Refusals.{allOf}
 use Rattle.effects.specs.Call.{numbered, called}
 use Rattle.effects.specs.Kept.{never, step-refused}
 

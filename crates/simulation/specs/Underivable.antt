@@ -15,8 +15,8 @@ use Rattle.traces.specs.RuleSets.{Reading}
 use Rattle.kerberos.specs.Log.{Event}
 use Rattle.realm.specs.declared.input.Step.{Step}
 use Rattle.realm.specs.Tables.{Tables}
-use Rattle.decisions.specs.Laws.Refusals.{refusalsOf}
 use Rattle.decisions.specs.Promises as decisions
+use Rattle.decisions.specs.Refusals.{refusalsOf}
 use Rattle.effects.specs.Call.{called}
 use Rattle.effects.specs.Promises.{step-refused}
 use Rattle.simulation.specs.Back.{brings}

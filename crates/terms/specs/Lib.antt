@@ -5,6 +5,7 @@ pub mod Message
 pub mod Descend
 pub mod Rules
 pub mod Operands
+pub mod Tags
 pub mod Table
 pub mod Valid
 pub mod Meaning

@@ -1,5 +1,5 @@
-// What a taken step writes, made from its values: a function for each row of the step table. None has a slice, so a value of some
-// twenty fields is carried through no proof of a function that lends tables.
+// What a taken step writes, made from its values: one function for steps 1 and 2, one each for 3 to 6, one for the others. None has a
+// slice, so a value of some twenty fields is carried through no proof of a function that lends tables.
 use decisions::Change;
 use decisions::Effect;
 use decisions::Keeping;

@@ -4,13 +4,12 @@
 -- Assumes nothing.
 use Prim.Native.Nat.{ℕ, zero, suc, _<_, _≤_}
 use mathlib.Core.Bool.{Bool, true, false, not, _&&_, cond}
-use mathlib.Core.List.{List, [], _∷_}
+use mathlib.Core.List.{List}
 use mathlib.Core.Logic.{_⊎_, inl, inr}
 use mathlib.Core.Path.{_≡_, refl}
 use native.Mathlib.Decide.{ℕ-discrete}
 use native.Mathlib.Omega.{arith}
 use lib.Dec.{leb, eqb}
-use lib.ListN.{getD}
 use borrow.Author.Tests.{eq-eqb}
 use Rattle.terms.specs.Meaning.{messageAt}
 use Rattle.sending.specs.Send.{fitsIn}
@@ -40,22 +39,7 @@ use Rattle.decisions.specs.declared.Verdict.the-variants.{Takes, Refused
 use Rattle.decisions.specs.Effects.{messagesOf, nothing}
 use Rattle.decisions.specs.Decision.{need, roomForRun, onRequest, issues, onReply, authenticates, onDelivery, takes, onConfirmation, finishes}
 use Rattle.decisions.specs.Decision.{opensRun, ticks, queries, stepOf, decided, roomed, decision}
-
--- "steps", the last column, turned round: by the step's number, from 0 on; 20 apart
-abbrev pub refusalsOf : ℕ → List ℕ
-refusalsOf step = getD (
-    []
-    ∷ (13 ∷ [])
-    ∷ (13 ∷ [])
-    ∷ (13 ∷ 14 ∷ 15 ∷ [])
-    ∷ (11 ∷ 14 ∷ 15 ∷ 16 ∷ [])
-    ∷ (11 ∷ 14 ∷ 15 ∷ 16 ∷ 17 ∷ 18 ∷ 19 ∷ [])
-    ∷ (11 ∷ 14 ∷ 15 ∷ 16 ∷ [])
-    ∷ (12 ∷ [])
-    ∷ []
-    ∷ (11 ∷ [])
-    ∷ (15 ∷ [])
-    ∷ []) step []
+use Rattle.decisions.specs.Refusals.{refusalsOf, fieldRefusals, allOf}
 
 -- whether the intruder can derive the message that the step uses; true where it uses none
 unfoldable pub askedFor : Tables → Step → Bool
@@ -139,10 +123,6 @@ module _ (h : Realm) (ts ws : List ℕ) (m : ℕ) where
 
 -- ---- any step
 
--- 4, 5 and 6
-abbrev pub fieldRefusals : List ℕ
-fieldRefusals = 4 ∷ 5 ∷ 6 ∷ []
-
 pub fields-number : (h : Realm) (s : Step) → (inputRefusal h s ≡ 0) ⊎ (inputRefusal h s ∈ fieldRefusals)
 unfolding inputRefusal
 fields-number h s = by (leb 1 (s .step) && leb (s .step) 10) (unusedZero (usesOf (s .step)) s) (inRange h (usesOf (s .step)) s)
@@ -155,10 +135,6 @@ fields-number h s = by (leb 1 (s .step) && leb (s .step) 10) (unusedZero (usesOf
     by true true false = inr (there (there here))
     by true false c = inr (there here)
     by false b c = inr here
-
--- all that a step can have
-abbrev pub allOf : ℕ → List ℕ
-allOf step = 20 ∷ 4 ∷ 5 ∷ 6 ∷ refusalsOf step
 
 of-fields : {d : Bool} {k : ℕ} (step : ℕ) → k ∈ fieldRefusals → (k ∈ allOf step) × Parted d k
 of-fields step here = (there here, under 4 (omega arith))

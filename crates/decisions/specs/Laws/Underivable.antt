@@ -7,7 +7,6 @@ use mathlib.Core.Path.{_≡_, refl, sym, ap, _∙_, subst}
 use native.Mathlib.Decide.{ℕ-discrete, decLt}
 use native.Mathlib.Omega.{arith}
 use borrow.Author.Tests.{ne-eqb}
-use lib.Dec.{eqb}
 use Rattle.terms.specs.Choice.{no-true}
 use Rattle.terms.specs.Meaning.{messageAt}
 use Rattle.terms.specs.Message.{Message}
@@ -22,10 +21,11 @@ use Rattle.realm.specs.Tables.{Tables, Together}
 use Rattle.conditions.specs.Conditions.{derivableAt}
 use Rattle.decisions.specs.declared.Verdict.{Verdict}
 use Rattle.decisions.specs.declared.Verdict.the-variants.{Takes, Refused}
-use Rattle.decisions.specs.Decision.{roomed, stepOf, decided, decision}
-use Rattle.decisions.specs.Laws.Refusals.{refusalsOf, allOf, askedFor, Parted, Tells, tells, fields-number, fieldRefusals}
+use Rattle.decisions.specs.Decision.{decided, decision}
+use Rattle.decisions.specs.Laws.Refusals.{askedFor, Parted, Tells, tells, fields-number}
 use Rattle.decisions.specs.Laws.Took.{Brings}
 use Rattle.decisions.specs.Laws.Verdict.{brings}
+use Rattle.decisions.specs.Refusals.{refusalsOf, fieldRefusals, allOf}
 
 -- no refusal before 15 is given
 abbrev pub Reached : Verdict → Type 0

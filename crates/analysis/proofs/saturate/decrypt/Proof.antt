@@ -3,7 +3,7 @@ use mathlib.Core.Path.{sym, _∙_, subst}
 use borrow.Author.Needs.{needs}
 use borrow.Author.Tests.{not-true, not-false}
 use Rattle.terms.specs.Meaning.{Under}
-use Rattle.terms.specs.Operands.{not-encrypted}
+use Rattle.terms.specs.Tags.{not-encrypted}
 use Rattle.worklist.specs.Found.{asFound}
 use Rattle.analysis.specs.Gives.{decrypt-found, decrypt-not}
 use Rattle.analysis.proofs.saturate.decrypt.Statement.{statement}

@@ -3,7 +3,7 @@ use mathlib.Core.Path.{sym, ap, _∙_, subst}
 use borrow.Author.Needs.{needs}
 use borrow.Author.Tests.{not-true, not-false}
 use Rattle.terms.specs.Meaning.{Under}
-use Rattle.terms.specs.Operands.{no-operands}
+use Rattle.terms.specs.Tags.{no-operands}
 use Rattle.worklist.specs.Found.{Found, asFound, learnOf, Room, learn-room}
 use Rattle.analysis.specs.Gives.{pair-split, body-given, body-kept}
 use Rattle.analysis.proofs.saturate.parts.Statement.{statement}

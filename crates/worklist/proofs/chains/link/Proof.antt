@@ -7,7 +7,7 @@ use lib.ListN.{length-set}
 use Rattle.words.specs.declared.Term.{Term}
 use Rattle.words.specs.declared.Term.the-variants.{Encrypted}
 use Rattle.terms.specs.Meaning.{Under}
-use Rattle.terms.specs.Operands.{not-encrypted}
+use Rattle.terms.specs.Tags.{not-encrypted}
 use Rattle.worklist.specs.Chains.{linkOf}
 use Rattle.worklist.proofs.chains.link.Statement.{statement}
 use Rattle.worklist.proofs.chains.link.Tie as tie
