@@ -1,0 +1,14 @@
+-- `raw_records::refusal::cap8` meets its contract. Assumes nothing.
+use Rattle.raw_records.specs.Capped.{capped-large, capped-small}
+use borrow.Author.Needs.{needs}
+use Rattle.raw_records.proofs.refusal.cap8.Statement.{statement}
+use Rattle.raw_records.proofs.refusal.cap8.Tie as tie
+
+returns : tie.Need-returns
+returns c = capped-large 255 _ (c .if1 .taken)
+
+returns-2 : tie.Need-returns-2
+returns-2 c = capped-small 255 _ (search needs)
+
+pub cap8-spec : {M : Type 1} → statement M
+cap8-spec = tie.close (tie.spec returns (λ c. search needs) returns-2)

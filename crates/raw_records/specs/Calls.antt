@@ -1,0 +1,57 @@
+-- The calls of a list of records, and a list of records for calls: records and the file's reading speak of the same records.
+-- Assumes nothing.
+use mathlib.Core.Path.{_≡_, refl, ap}
+use mathlib.Core.List.{List, [], _∷_, _++_, map}
+use Prim.Native.Nat.{ℕ}
+use Rattle.exchange.specs.declared.call.Call.{Call}
+use Rattle.exchange.specs.declared.call.Call.the-variants as call
+use Rattle.exchange.specs.Calls.{Sized}
+use Rattle.records.specs.Records.{termMark, stepMark}
+use Rattle.raw_records.specs.declared.raw.RawRecord.{RawRecord}
+use Rattle.raw_records.specs.declared.raw.RawRecord.the-variants.{Term, Step, Unknown}
+use Rattle.raw_records.specs.Raw.{rawBy, recordsOf}
+
+-- ---- definitions
+
+-- the calls of records, in their order
+abbrev pub callsOf : List RawRecord → List Call
+callsOf [] = []
+callsOf (Term kind l r ∷ raws) = call.Term kind l r ∷ callsOf raws
+callsOf (Step step run a b m t ∷ raws) = call.Step step run a b m t ∷ callsOf raws
+callsOf (Unknown ∷ raws) = callsOf raws
+
+abbrev pub rawFor : Call → RawRecord
+rawFor (call.Term kind l r) = Term kind l r
+rawFor (call.Step step run a b m t) = Step step run a b m t
+
+abbrev pub wordsFor : Call → List ℕ
+wordsFor (call.Term kind l r) = termMark ∷ kind ∷ l ∷ r ∷ 0 ∷ 0 ∷ 0 ∷ []
+wordsFor (call.Step step run a b m t) = stepMark ∷ step ∷ run ∷ a ∷ b ∷ m ∷ t ∷ []
+
+-- the words by which a caller hands calls to the writer
+abbrev pub wordsOf : List Call → List ℕ
+wordsOf [] = []
+wordsOf (c ∷ calls) = wordsFor c ++ wordsOf calls
+
+-- it is a record, and every number has its field's width
+abbrev pub Fits : RawRecord → Type 0
+Fits (Term kind l r) = Sized (call.Term kind l r)
+Fits (Step step run a b m t) = Sized (call.Step step run a b m t)
+Fits Unknown = ⊥
+
+abbrev pub AllFit : List RawRecord → Type 0
+AllFit [] = Unit {0}
+AllFit (raw ∷ raws) = Fits raw × AllFit raws
+
+-- ---- laws
+
+pub records-for : (calls : List Call) → recordsOf (wordsOf calls) ≡ map rawFor calls
+unfolding recordsOf rawBy
+records-for [] = refl
+records-for (call.Term kind l r ∷ calls) = ap (λ (raws : List RawRecord). Term kind l r ∷ raws) (records-for calls)
+records-for (call.Step step run a b m t ∷ calls) = ap (λ (raws : List RawRecord). Step step run a b m t ∷ raws) (records-for calls)
+
+pub calls-for : (calls : List Call) → callsOf (map rawFor calls) ≡ calls
+calls-for [] = refl
+calls-for (call.Term kind l r ∷ calls) = ap (λ (cs : List Call). call.Term kind l r ∷ cs) (calls-for calls)
+calls-for (call.Step step run a b m t ∷ calls) = ap (λ (cs : List Call). call.Step step run a b m t ∷ cs) (calls-for calls)

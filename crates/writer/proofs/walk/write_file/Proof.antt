@@ -1,0 +1,58 @@
+-- `writer::walk/write_file` meets its contract. Assumes nothing.
+use native.Mathlib.Omega.{arith}
+use Rattle.fields.specs.Placed.{joined}
+use Rattle.raw_records.specs.Raw.{recordsOf}
+use Rattle.writer.specs.File.{headerBytes, fileOf}
+use Rattle.writer.specs.Progress.{header-long, part-room, part-wrote}
+use Rattle.writer.specs.Write.{file-length}
+use borrow.Author.Needs.{needs}
+use Rattle.writer.proofs.walk.write_file.Statement.{statement}
+use Rattle.writer.proofs.walk.write_file.Tie as tie
+
+write-header-requires : tie.Need-write-header-requires
+write-header-requires c κs =
+    let s = c .before .before .before in
+    let a = s .args in
+    part-room (a .out .now) (a .at) 13 (omega (arith, s .pre, file-length (a .n) (a .flags) (a .ls) (a .la) (recordsOf (a .words .now))))
+
+add-write-records : tie.Need-add-write-records
+add-write-records c =
+    let s = c .before .before .before .before .before .before .before in
+    let a = s .args in
+    let h = s .pre in
+    let l = file-length (a .n) (a .flags) (a .ls) (a .la) (recordsOf (a .words .now)) in
+    let e = c .before .before .before .write-header .ensures .offset in
+    let k = header-long (a .n) (a .flags) (a .ls) (a .la) in
+    search needs
+
+write-records-requires : tie.Need-write-records-requires
+write-records-requires c κs =
+    let s = c .before .before .before .before .before .before .before in
+    let a = s .args in
+    omega (
+      arith,
+      s .pre,
+      file-length (a .n) (a .flags) (a .ls) (a .la) (recordsOf (a .words .now)),
+      header-long (a .n) (a .flags) (a .ls) (a .la),
+      c .before .before .before .write-header .ensures .offset,
+    )
+
+returns : tie.Need-returns
+unfolding fileOf
+returns c =
+    let s = c .before .before .before .before .before .before .before .before .before .before in
+    let a = s .args in
+    joined (omega (arith, s .pre)) (part-wrote (a .out .now) (a .at) (headerBytes (a .n) (a .flags) (a .ls) (a .la)) (c .before .before .before .before .before .before .write-header .ensures)) (c .before .before .write-records .ensures)
+
+pub write-file-spec : {M : Type 1} → statement M
+write-file-spec =
+    tie.close
+    (tie.spec
+    (λ c. search needs)
+    (λ c. search needs)
+    (λ c. search needs)
+    write-header-requires
+    add-write-records
+    write-records-requires
+    (λ c. search needs)
+    returns)

@@ -1,0 +1,191 @@
+-- Going through the records one by one: what is left of the bytes and of the writing after i of them.
+-- Assumes nothing.
+use mathlib.Core.Path.{_≡_, refl, sym, ap, _∙_}
+use mathlib.Core.List.{List, [], _∷_, _++_, append-assoc, append-nil}
+use Prim.Native.Nat.{ℕ, zero, suc, _+_, _*_, _-_, _/_, _<_, _≤_}
+use native.Mathlib.Omega.{arith}
+use lib.ListN.{length, take, drop, length-append, length-drop, take-append-drop, drop-of-length-le}
+use lib.Seq.{take-all, drop-drop}
+use borrow.Rule.Slice.PartMut.{midOf, putMid, mid-len}
+use Rattle.fields.specs.Placed.{placed, Wrote, joined, wrote-as}
+use Rattle.records.specs.Headers.{maxFile}
+use Rattle.raw_records.specs.declared.raw.RawRecord.{RawRecord}
+use Rattle.raw_records.specs.declared.raw.RawRecord.the-variants.{Term, Step, Unknown}
+use Rattle.raw_records.specs.Raw.{recordsOf, rawAt, record-next, none-left, cut-short}
+use Rattle.writer.specs.File.{low, high, headerBytes, recordBytes, bodyOf}
+use Rattle.raw_records.specs.Passing.{recordsFrom}
+
+-- ---- definitions
+
+-- r is the length of a file, or above the limit where the length is
+pub record Measures (r bytes : ℕ) : Type 0 where
+  pub exact : bytes ≤ maxFile → r ≡ bytes
+  pub above : maxFile < bytes → maxFile < r
+
+-- the bytes of i records were written from `at` on
+pub record Progress (before : List ℕ) (at : ℕ) (words : List ℕ) (after : List ℕ) (end i : ℕ) : Type 0 where
+  pub done : List ℕ
+  pub whole : done ++ bodyOf (recordsFrom words i) ≡ bodyOf (recordsOf words)
+  pub wrote : Wrote before at done after end
+
+-- ---- bytes
+
+pub record-short : (raw : RawRecord) → length (recordBytes raw) ≤ 12
+unfolding recordBytes
+record-short (Term kind l r) = omega arith
+record-short (Step step run a b m t) = omega arith
+record-short Unknown = omega arith
+
+pub header-long : (n flags ls la : ℕ) → length (headerBytes n flags ls la) ≡ 13
+unfolding headerBytes
+header-long n flags ls la = refl
+
+module _ (words : List ℕ) (i : ℕ) where
+  pub body-next : i * 7 + 7 ≤ length words → bodyOf (recordsFrom words i) ≡ recordBytes (rawAt words (i * 7)) ++ bodyOf (recordsFrom words (i + 1))
+  body-next h = ap bodyOf (record-next words i h)
+
+  pub length-next : i * 7 + 7 ≤ length words → {k : ℕ} {raw : RawRecord} → raw ≡ rawAt words (i * 7) → k ≡ length (recordBytes raw)
+      → length (bodyOf (recordsFrom words i)) ≡ k + length (bodyOf (recordsFrom words (i + 1)))
+  length-next h {k} {raw} e l =
+      ap (λ (b : List ℕ). length b) (body-next h)
+      ∙ length-append (recordBytes (rawAt words (i * 7))) (bodyOf (recordsFrom words (i + 1)))
+      ∙ ap (λ (j : ℕ). j + length (bodyOf (recordsFrom words (i + 1)))) (sym (l ∙ ap (λ (x : RawRecord). length (recordBytes x)) e))
+
+  pub body-end : i * 7 ≤ length words → length words < i * 7 + 7 → bodyOf (recordsFrom words i) ≡ []
+  unfolding recordBytes
+  body-end l h = on (length words - i * 7) (length-drop (i * 7) words)
+    where
+      on : (k : ℕ) → length (drop (i * 7) words) ≡ k → bodyOf (recordsFrom words i) ≡ []
+      on zero e = ap bodyOf (none-left (drop (i * 7) words) e)
+      on (suc k) e = ap bodyOf (cut-short (drop (i * 7) words) (omega arith) (omega (arith, length-drop (i * 7) words)))
+
+pub measured-above : (r bytes : ℕ) → maxFile < r → r ≤ bytes → Measures r bytes
+measured-above r bytes h l = record { exact = λ s. absurd (omega arith); above = λ s. h }
+
+pub measured-end : (r bytes : ℕ) → r ≡ bytes → Measures r bytes
+measured-end r bytes e = record { exact = λ s. e; above = λ s. omega arith }
+
+-- ---- one record into a part of the buffer
+
+from-zero : (k : ℕ) → 0 + k ≡ k
+from-zero k = omega arith
+
+-- what a copy to the front of a lent part leaves there
+pub copied : (xs bytes : List ℕ) {b : List ℕ} {n : ℕ} {after : List ℕ} → b ≡ bytes → n ≡ length b → after ≡ take (length b) b ++ drop (length b) xs
+    → Wrote xs 0 bytes after n
+unfolding placed
+copied xs bytes {b} {n} {after} e l p = record {
+  contents = p ∙ ap (λ (u : List ℕ). u ++ drop (length b) xs) (take-all (length b) b (omega arith)) ∙ ap (λ (u : List ℕ). u ++ drop (length u) xs) e
+      ∙ ap (λ (k : ℕ). bytes ++ drop k xs) (sym (from-zero (length bytes)));
+  offset = l ∙ ap (λ (u : List ℕ). length u) e ∙ sym (from-zero (length bytes));
+}
+
+-- the part's front is the whole's place
+pub part-wrote : (xs : List ℕ) (at : ℕ) (bytes : List ℕ) {part : List ℕ} {n : ℕ} → Wrote (midOf at (length xs - at) xs) 0 bytes part n
+    → Wrote xs at bytes (putMid at (length xs - at) xs part) (at + n)
+unfolding placed
+part-wrote xs at bytes {part} {n} w =
+    let rest : List ℕ = drop at xs in
+    let whole : length rest ≤ length xs - at = omega (arith, length-drop at xs) in
+    record {
+      contents =
+          rw (
+            w .contents,
+            from-zero (length bytes),
+            take-all (length xs - at) rest whole,
+            drop-of-length-le rest whole,
+            append-nil (bytes ++ drop (length bytes) rest),
+            drop-drop (length bytes) at xs,
+          )
+          (sym (append-assoc (take at xs) bytes (drop (at + length bytes) xs)));
+      offset = ap (λ (k : ℕ). at + k) (w .offset ∙ from-zero (length bytes));
+    }
+
+pub part-room : (xs : List ℕ) (at k : ℕ) → at + k ≤ length xs → k ≤ length (midOf at (length xs - at) xs)
+part-room xs at k h = omega (arith, mid-len at (length xs) xs (omega arith))
+
+module _ (kind l r : ℕ) where
+  pub term-bytes : {b₂ b₃ b₄ b₅ b₆ : ℕ} → b₂ ≡ low kind → b₃ ≡ high l → b₄ ≡ low l → b₅ ≡ high r → b₆ ≡ low r
+      → 0x54 ∷ 0x4D ∷ b₂ ∷ b₃ ∷ b₄ ∷ b₅ ∷ b₆ ∷ [] ≡ recordBytes (Term kind l r)
+  unfolding recordBytes
+  term-bytes e₂ e₃ e₄ e₅ e₆ = rw (e₂, e₃, e₄, e₅, e₆)
+
+  pub term-room : {raw : RawRecord} {room : ℕ} → raw ≡ Term kind l r → length (recordBytes raw) ≤ room → 7 ≤ room
+  unfolding recordBytes
+  term-room e h = rw e at h
+
+module _ (step run a b m t : ℕ) where
+  pub step-bytes : {b₂ b₃ b₄ b₅ b₆ b₇ b₈ b₉ c₀ c₁ : ℕ} → b₂ ≡ low step → b₃ ≡ low run → b₄ ≡ low a → b₅ ≡ low b → b₆ ≡ high m → b₇ ≡ low m
+      → b₈ ≡ high (t / 65536) → b₉ ≡ low (t / 65536) → c₀ ≡ high t → c₁ ≡ low t
+      → 0x53 ∷ 0x54 ∷ b₂ ∷ b₃ ∷ b₄ ∷ b₅ ∷ b₆ ∷ b₇ ∷ b₈ ∷ b₉ ∷ c₀ ∷ c₁ ∷ [] ≡ recordBytes (Step step run a b m t)
+  unfolding recordBytes
+  step-bytes e₂ e₃ e₄ e₅ e₆ e₇ e₈ e₉ f₀ f₁ = rw (e₂, e₃, e₄, e₅, e₆, e₇, e₈, e₉, f₀, f₁)
+
+  pub step-room : {raw : RawRecord} {room : ℕ} → raw ≡ Step step run a b m t → length (recordBytes raw) ≤ room → 12 ≤ room
+  unfolding recordBytes
+  step-room e h = rw e at h
+
+module _ (n flags ls la : ℕ) where
+  pub header-bytes : {b₃ b₄ b₅ b₆ b₇ b₈ b₉ c₀ c₁ c₂ : ℕ} → b₃ ≡ high flags → b₄ ≡ low flags → b₅ ≡ high (ls / 65536) → b₆ ≡ low (ls / 65536) → b₇ ≡ high ls
+      → b₈ ≡ low ls → b₉ ≡ high (la / 65536) → c₀ ≡ low (la / 65536) → c₁ ≡ high la → c₂ ≡ low la
+      → 0x48 ∷ 0x44 ∷ n ∷ b₃ ∷ b₄ ∷ b₅ ∷ b₆ ∷ b₇ ∷ b₈ ∷ b₉ ∷ c₀ ∷ c₁ ∷ c₂ ∷ [] ≡ headerBytes n flags ls la
+  unfolding headerBytes
+  header-bytes e₃ e₄ e₅ e₆ e₇ e₈ e₉ f₀ f₁ f₂ = rw (e₃, e₄, e₅, e₆, e₇, e₈, e₉, f₀, f₁, f₂)
+
+pub nothing-wrote : (xs : List ℕ) (at : ℕ) → Wrote xs at [] xs (at + 0)
+unfolding placed
+nothing-wrote xs at = record {
+  contents = sym (take-append-drop at xs) ∙ ap (λ (k : ℕ). take at xs ++ drop k xs) (plain at)
+      ∙ ap (λ (u : List ℕ). u ++ drop (at + 0) xs) (sym (append-nil (take at xs)));
+  offset = refl;
+}
+  where
+    plain : (at : ℕ) → at ≡ at + 0
+    plain at = omega arith
+
+pub unknown-wrote : (xs : List ℕ) {raw : RawRecord} → raw ≡ Unknown → Wrote xs 0 (recordBytes raw) xs 0
+unfolding recordBytes
+unknown-wrote xs e = wrote-as (sym (ap recordBytes e)) (nothing-wrote xs 0)
+
+-- ---- one record after the other
+
+module _ (before : List ℕ) (at : ℕ) (words : List ℕ) (room : at + length (bodyOf (recordsOf words)) ≤ length before) where
+  pub starts : Progress before at words before at 0
+  starts = record { done = []; whole = refl; wrote = at-start }
+    where
+      plain : (at : ℕ) → at + 0 ≡ at
+      plain at = omega arith
+
+      at-start : Wrote before at [] before at
+      at-start = record { contents = nothing-wrote before at .contents; offset = sym (plain at) }
+
+  module _ (after : List ℕ) (end i : ℕ) (p : Progress before at words after end i) where
+    pub end-within : end ≤ length before
+    end-within = omega (arith, room, p .wrote .offset, length-append (p .done) (bodyOf (recordsFrom words i)), ap (λ (b : List ℕ). length b) (p .whole))
+
+    pub next-fits : i * 7 + 7 ≤ length words → {raw : RawRecord} → raw ≡ rawAt words (i * 7) → end + length (recordBytes raw) ≤ length before
+    next-fits h {raw} e =
+        omega (
+          arith,
+          room,
+          p .wrote .offset,
+          length-append (p .done) (bodyOf (recordsFrom words i)),
+          ap (λ (b : List ℕ). length b) (p .whole),
+          length-next words i h e refl,
+        )
+
+    pub goes-on : i * 7 + 7 ≤ length words → {raw : RawRecord} → raw ≡ rawAt words (i * 7) → {part : List ℕ} {n : ℕ}
+        → Wrote (midOf end (length after - end) after) 0 (recordBytes raw) part n
+        → Progress before at words (putMid end (length after - end) after part) (end + n) (i + 1)
+    goes-on h {raw} e {part} {n} w = record {
+      done = p .done ++ recordBytes raw;
+      whole = append-assoc (p .done) (recordBytes raw) (bodyOf (recordsFrom words (i + 1)))
+          ∙ ap (λ (x : RawRecord). p .done ++ (recordBytes x ++ bodyOf (recordsFrom words (i + 1)))) e
+          ∙ ap (λ (b : List ℕ). p .done ++ b) (sym (body-next words i h))
+          ∙ p .whole;
+      wrote = joined (omega (arith, room)) (p .wrote) (part-wrote after end (recordBytes raw) w);
+    }
+
+    pub finishes : i * 7 ≤ length words → length words < i * 7 + 7 → Wrote before at (bodyOf (recordsOf words)) after end
+    finishes l h =
+        wrote-as (sym (append-nil (p .done)) ∙ ap (λ (b : List ℕ). p .done ++ b) (sym (body-end words i l h)) ∙ p .whole) (p .wrote)

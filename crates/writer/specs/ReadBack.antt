@@ -1,0 +1,249 @@
+-- "What it wrote is read back as the same records, and a file so read is written back as the same bytes."
+-- Assumes nothing.
+use mathlib.Core.Path.{_≡_, refl, sym, ap, _∙_}
+use mathlib.Core.Bool.{true, false}
+use mathlib.Core.List.{List, [], _∷_, _++_, map}
+use Prim.Native.Nat.{ℕ, zero, suc, _+_, _*_, _/_, _^_, _<_, _≤_}
+use native.Mathlib.Omega.{arith}
+use borrow.Author.Tests.{eq-eqb, ne-eqb, eqb-true}
+use lib.ListN.{length, drop, length-drop}
+use lib.Seq.{drop-cons}
+use Rattle.exchange.specs.declared.call.Call.{Call}
+use Rattle.exchange.specs.declared.call.Call.the-variants as call
+use Rattle.records.specs.declared.header.Header.{Header}
+use Rattle.records.specs.declared.header.Header.the-variants as header
+use Rattle.records.specs.Fields.{Bytes, byte, number16, number32, begins, begins-by, begins-whole, drop-bytes}
+use Rattle.records.specs.Headers.{headerMark, maxFile, headerOf}
+use Rattle.records.specs.Headers as headers
+use Rattle.records.specs.Records.{termMark, stepMark, termBytes, stepBytes, termCall, stepCall, Front, whole, frontOf, front-term, front-step, Finds, at-end, at-term, at-step, at-fault, front-finds}
+use Rattle.records.specs.Calls.{Calls, ended, broken, then, onward, calls-are, calls-end}
+use Rattle.records.specs.Calls as reading
+use Rattle.raw_records.specs.declared.raw.RawRecord.{RawRecord}
+use Rattle.raw_records.specs.declared.raw.RawRecord.the-variants.{Term, Step, Unknown}
+use Rattle.writer.specs.File.{low, high, bytes16, bytes32, headerBytes, recordBytes, bodyOf, fileOf}
+use Rattle.raw_records.specs.Calls.{callsOf, rawFor, Fits, AllFit}
+
+-- ---- numbers
+
+back16 : (x : ℕ) → x < 2 ^ 16 → high x * 256 + low x ≡ x
+back16 x h = omega arith
+
+back32 : (x : ℕ) → x < 2 ^ 32 → (high (x / 65536) * 256 + low (x / 65536)) * 65536 + (high x * 256 + low x) ≡ x
+back32 x h = omega arith
+
+back8 : (x : ℕ) → x < 2 ^ 8 → low x ≡ x
+back8 x h = omega arith
+
+-- ---- read back
+
+-- what a whole record at the front is to a reader
+first-call : (bytes : List ℕ) (c : Call) (width : ℕ) → whole c width ≡ frontOf bytes → reading.callsOf bytes ≡ then c (reading.callsOf (drop width bytes))
+first-call bytes c width e = calls-are bytes ∙ ap (λ (f : Front). onward f (λ w. reading.callsOf (drop w bytes))) (sym e)
+
+begins-here : (mark width : ℕ) (bytes : List ℕ) → width ≤ length bytes → number16 bytes 0 ≡ mark → begins mark width bytes ≡ true
+begins-here mark width bytes h e = sym (begins-by mark width bytes h refl) ∙ eq-eqb (number16 bytes 0) mark e
+
+begins-other : (mark width : ℕ) (bytes : List ℕ) → width ≤ length bytes → (number16 bytes 0 ≡ mark → ⊥) → begins mark width bytes ≡ false
+begins-other mark width bytes h e = sym (begins-by mark width bytes h refl) ∙ ne-eqb (number16 bytes 0) mark e
+
+term-back : (kind l r : ℕ) (rest : List ℕ) → Fits (Term kind l r)
+    → reading.callsOf (recordBytes (Term kind l r) ++ rest) ≡ then (call.Term kind l r) (reading.callsOf rest)
+unfolding recordBytes
+term-back kind l r rest f =
+    let bytes : List ℕ = recordBytes (Term kind l r) ++ rest in
+    first-call bytes (call.Term kind l r) 7
+    (front-term bytes (omega arith) (begins-here termMark 7 bytes (omega arith) refl) (rw (back8 kind (f .0), back16 l (f .1), back16 r (f .2))))
+
+step-back : (step run a b m t : ℕ) (rest : List ℕ) → Fits (Step step run a b m t)
+    → reading.callsOf (recordBytes (Step step run a b m t) ++ rest) ≡ then (call.Step step run a b m t) (reading.callsOf rest)
+unfolding recordBytes
+step-back step run a b m t rest f =
+    let bytes : List ℕ = recordBytes (Step step run a b m t) ++ rest in
+    first-call bytes (call.Step step run a b m t) 12
+    (front-step bytes (omega arith) (begins-other termMark 7 bytes (omega arith) (λ z. omega arith)) (begins-here stepMark 12 bytes (omega arith) refl)
+    (rw (back8 step (f .0), back8 run (f .1), back8 a (f .2), back8 b (f .3), back16 m (f .4), back32 t (f .5))))
+
+pub body-back : (raws : List RawRecord) → AllFit raws → reading.callsOf (bodyOf raws) ≡ record { calls = callsOf raws; ending = ended }
+body-back [] f = calls-end [] 0 (omega arith)
+body-back (Term kind l r ∷ raws) f = term-back kind l r (bodyOf raws) (f .0) ∙ ap (then (call.Term kind l r)) (body-back raws (f .1))
+body-back (Step step run a b m t ∷ raws) f = step-back step run a b m t (bodyOf raws) (f .0) ∙ ap (then (call.Step step run a b m t)) (body-back raws (f .1))
+body-back (Unknown ∷ raws) f = absurd (f .0)
+
+module _ (n flags ls la : ℕ) (raws : List RawRecord) where
+  pub header-back : flags < 2 ^ 16 → ls < 2 ^ 32 → la < 2 ^ 32 → length (fileOf n flags ls la raws) ≤ maxFile
+      → headerOf (fileOf n flags ls la raws) ≡ header.Read n flags ls la
+  unfolding fileOf headerBytes
+  header-back hf hs ha short =
+      let bytes : List ℕ = fileOf n flags ls la raws in
+      sym (headers.header-read bytes short (begins-here headerMark 13 bytes (omega arith) refl))
+      ∙ fields n {y = number16 bytes 3} {z = number32 bytes 5} {w = number32 bytes 9} (back16 flags hf) (back32 ls hs) (back32 la ha)
+    where
+      fields : (x : ℕ) {y z w y′ z′ w′ : ℕ} → y ≡ y′ → z ≡ z′ → w ≡ w′ → header.Read x y z w ≡ header.Read x y′ z′ w′
+      fields x p q r = rw (p, q, r)
+
+  pub calls-back : AllFit raws → reading.callsOf (drop headers.headerBytes (fileOf n flags ls la raws)) ≡ record { calls = callsOf raws; ending = ended }
+  unfolding fileOf headerBytes
+  calls-back f = body-back raws f
+
+-- ---- written back
+
+-- the bytes of a number that was read from bytes
+high-back : (x y : ℕ) → x < 2 ^ 8 → y < 2 ^ 8 → high (x * 256 + y) ≡ x
+high-back x y p q = omega arith
+
+low-back : (x y : ℕ) → x < 2 ^ 8 → y < 2 ^ 8 → low (x * 256 + y) ≡ y
+low-back x y p q = omega arith
+
+bytes16-back : (x y : ℕ) → x < 2 ^ 8 → y < 2 ^ 8 → bytes16 (x * 256 + y) ≡ x ∷ y ∷ []
+bytes16-back x y p q = rw (high-back x y p q, low-back x y p q)
+
+upper : (u v : ℕ) → v < 2 ^ 16 → (u * 65536 + v) / 65536 ≡ u
+upper u v h = omega arith
+
+lower : (u v : ℕ) → v < 2 ^ 16 → bytes16 (u * 65536 + v) ≡ bytes16 v
+lower u v h = pairs (high-of u v h) (low-of u v)
+  where
+    pairs : {x y z w : ℕ} → x ≡ z → y ≡ w → x ∷ y ∷ [] ≡ z ∷ w ∷ []
+    pairs p q = rw (p, q)
+
+    high-of : (u v : ℕ) → v < 2 ^ 16 → high (u * 65536 + v) ≡ high v
+    high-of u v h = omega arith
+
+    low-of : (u v : ℕ) → low (u * 65536 + v) ≡ low v
+    low-of u v = omega arith
+
+bytes32-back : (x y z w : ℕ) → x < 2 ^ 8 → y < 2 ^ 8 → z < 2 ^ 8 → w < 2 ^ 8
+    → bytes32 ((x * 256 + y) * 65536 + (z * 256 + w)) ≡ x ∷ y ∷ z ∷ w ∷ []
+bytes32-back x y z w p q r s =
+    ap (λ (k : ℕ). bytes16 k ++ bytes16 ((x * 256 + y) * 65536 + (z * 256 + w))) (upper (x * 256 + y) (z * 256 + w) (omega arith))
+    ∙ ap (λ (b : List ℕ). bytes16 (x * 256 + y) ++ b) (lower (x * 256 + y) (z * 256 + w) (omega arith) ∙ bytes16-back z w r s)
+    ∙ ap (λ (b : List ℕ). b ++ z ∷ w ∷ []) (bytes16-back x y p q)
+
+mark-high : (x y mark : ℕ) → x < 2 ^ 8 → y < 2 ^ 8 → x * 256 + y ≡ mark → x ∷ y ∷ [] ≡ bytes16 mark
+mark-high x y mark p q e = sym (bytes16-back x y p q) ∙ ap bytes16 e
+
+-- so many bytes from a place on
+abbrev span : List ℕ → (at k : ℕ) → List ℕ
+span bytes at zero = []
+span bytes at (suc k) = byte bytes at ∷ span bytes (suc at) k
+
+spanned : (bytes : List ℕ) (at k : ℕ) → at + k ≤ length bytes → span bytes at k ++ drop (at + k) bytes ≡ drop at bytes
+spanned bytes at zero h = ap (λ (j : ℕ). drop j bytes) (here at)
+  where
+    here : (at : ℕ) → at + 0 ≡ at
+    here at = omega arith
+spanned bytes at (suc k) h =
+    ap (λ (j : ℕ). byte bytes at ∷ (span bytes (suc at) k ++ drop j bytes)) (on at k)
+    ∙ ap (λ (rest : List ℕ). byte bytes at ∷ rest) (spanned bytes (suc at) k (omega arith))
+    ∙ sym (drop-cons bytes at 0 (omega arith))
+  where
+    on : (at k : ℕ) → at + suc k ≡ suc at + k
+    on at k = omega arith
+
+begins-mark : (mark width : ℕ) (bytes : List ℕ) → begins mark width bytes ≡ true → number16 bytes 0 ≡ mark
+begins-mark mark width bytes h = eqb-true (number16 bytes 0) mark (begins-by mark width bytes (begins-whole mark width bytes h) refl ∙ h)
+
+module _ (bytes : List ℕ) (b : Bytes bytes) where
+  small : (k : ℕ) → byte bytes k < 2 ^ 8
+  small k = b .small k
+
+  mark-back : (mark width : ℕ) → begins mark width bytes ≡ true → bytes16 mark ≡ span bytes 0 2
+  mark-back mark width h = sym (mark-high (byte bytes 0) (byte bytes 1) mark (small 0) (small 1) (begins-mark mark width bytes h))
+
+  field16 : (at : ℕ) → bytes16 (number16 bytes at) ≡ byte bytes at ∷ byte bytes (at + 1) ∷ []
+  field16 at = bytes16-back (byte bytes at) (byte bytes (at + 1)) (small at) (small (at + 1))
+
+  field32 : (at : ℕ) → bytes32 (number32 bytes at) ≡ byte bytes at ∷ byte bytes (at + 1) ∷ byte bytes (at + 2) ∷ byte bytes (at + 2 + 1) ∷ []
+  field32 at = bytes32-back (byte bytes at) (byte bytes (at + 1)) (byte bytes (at + 2)) (byte bytes (at + 2 + 1)) (small at) (small (at + 1)) (small (at + 2)) (small (at + 2 + 1))
+
+  field8 : (at : ℕ) → low (byte bytes at) ≡ byte bytes at
+  field8 at = back8 (byte bytes at) (small at)
+
+  term-again : begins termMark termBytes bytes ≡ true → recordBytes (rawFor (termCall bytes)) ++ drop termBytes bytes ≡ bytes
+  unfolding recordBytes
+  term-again h =
+      ap (λ (front : List ℕ). front ++ drop 7 bytes) (parts (mark-back termMark 7 h) (field8 2) (field16 3) (field16 5))
+      ∙ spanned bytes 0 7 (begins-whole termMark 7 bytes h)
+    where
+      parts : {m m′ l l′ r r′ : List ℕ} {k k′ : ℕ} → m ≡ m′ → k ≡ k′ → l ≡ l′ → r ≡ r′ → m ++ k ∷ l ++ r ≡ m′ ++ k′ ∷ l′ ++ r′
+      parts p q r s = rw (p, q, r, s)
+
+  step-again : begins stepMark stepBytes bytes ≡ true → recordBytes (rawFor (stepCall bytes)) ++ drop stepBytes bytes ≡ bytes
+  unfolding recordBytes
+  step-again h =
+      ap (λ (front : List ℕ). front ++ drop 12 bytes) (parts (mark-back stepMark 12 h) (field8 2) (field8 3) (field8 4) (field8 5) (field16 6) (field32 8))
+      ∙ spanned bytes 0 12 (begins-whole stepMark 12 bytes h)
+    where
+      parts : {m m′ u u′ v v′ : List ℕ} {s s′ r r′ x x′ y y′ : ℕ} → m ≡ m′ → s ≡ s′ → r ≡ r′ → x ≡ x′ → y ≡ y′ → u ≡ u′ → v ≡ v′
+          → m ++ s ∷ r ∷ x ∷ y ∷ u ++ v ≡ m′ ++ s′ ∷ r′ ∷ x′ ∷ y′ ∷ u′ ++ v′
+      parts p q r s t u v = rw (p, q, r, s, t, u, v)
+
+  header-again : begins headerMark headers.headerBytes bytes ≡ true
+      → headerBytes (byte bytes 2) (number16 bytes 3) (number32 bytes 5) (number32 bytes 9) ++ drop headers.headerBytes bytes ≡ bytes
+  unfolding headerBytes
+  header-again h =
+      ap (λ (front : List ℕ). front ++ drop 13 bytes) (parts (byte bytes 2) (mark-back headerMark 13 h) (field16 3) (field32 5) (field32 9))
+      ∙ spanned bytes 0 13 (begins-whole headerMark 13 bytes h)
+    where
+      parts : {m m′ f f′ s s′ a a′ : List ℕ} (n : ℕ) → m ≡ m′ → f ≡ f′ → s ≡ s′ → a ≡ a′ → m ++ n ∷ f ++ s ++ a ≡ m′ ++ n ∷ f′ ++ s′ ++ a′
+      parts n p q r s = rw (p, q, r, s)
+
+-- a file that was read to its end is the bytes of its records
+again-within : (fuel : ℕ) (bytes : List ℕ) → length bytes ≤ fuel → Bytes bytes → reading.callsOf bytes .ending ≡ ended
+    → bodyOf (map rawFor (reading.callsOf bytes .calls)) ≡ bytes
+again-within zero [] h b e = ap (λ (cs : Calls). bodyOf (map rawFor (cs .calls))) (calls-end [] 0 (omega arith))
+again-within zero (x ∷ xs) h b e = absurd (omega arith)
+again-within (suc fuel) bytes h b e = by-front (frontOf bytes) (front-finds bytes) (calls-are bytes) (again-within fuel)
+  where
+    empty : (xs : List ℕ) → length xs ≡ 0 → _≡_ {A = List ℕ} [] xs
+    empty [] z = refl
+    empty (x ∷ xs) z = absurd (omega arith)
+
+    on : (c : Call) (width : ℕ) → 0 < width → width ≤ length bytes → reading.callsOf bytes ≡ then c (reading.callsOf (drop width bytes))
+        → recordBytes (rawFor c) ++ drop width bytes ≡ bytes
+        → ((later : List ℕ) → length later ≤ fuel → Bytes later → reading.callsOf later .ending ≡ ended → bodyOf (map rawFor (reading.callsOf later .calls)) ≡ later)
+        → bodyOf (map rawFor (reading.callsOf bytes .calls)) ≡ bytes
+    on c width some fits s again next =
+        ap (λ (cs : Calls). bodyOf (map rawFor (cs .calls))) s
+        ∙ ap (λ (rest : List ℕ). recordBytes (rawFor c) ++ rest)
+        (next (drop width bytes) (omega (arith, length-drop width bytes)) (drop-bytes b width) (sym (ap (λ (cs : Calls). cs .ending) s) ∙ e))
+        ∙ again
+
+    by-front : (f : Front) → Finds bytes f → reading.callsOf bytes ≡ onward f (λ width. reading.callsOf (drop width bytes))
+        → ((later : List ℕ) → length later ≤ fuel → Bytes later → reading.callsOf later .ending ≡ ended → bodyOf (map rawFor (reading.callsOf later .calls)) ≡ later)
+        → bodyOf (map rawFor (reading.callsOf bytes .calls)) ≡ bytes
+    by-front f (at-end z) s next = ap (λ (cs : Calls). bodyOf (map rawFor (cs .calls))) s ∙ empty bytes z
+    by-front f (at-term t) s next = on (termCall bytes) termBytes (omega arith) (begins-whole termMark termBytes bytes t) s (term-again bytes b t) next
+    by-front f (at-step t) s next = on (stepCall bytes) stepBytes (omega arith) (begins-whole stepMark stepBytes bytes t) s (step-again bytes b t) next
+    by-front f (at-fault l t u) s next = not-ended (sym (ap (λ (cs : Calls). cs .ending) s) ∙ e)
+      where
+        not-ended : {A : Type 0} → broken ≡ ended → A
+        not-ended q = let z : _≡_ {A = ℕ} 0 1 = cc in absurd (omega arith)
+
+pub body-again : (bytes : List ℕ) → Bytes bytes → reading.callsOf bytes .ending ≡ ended → bodyOf (map rawFor (reading.callsOf bytes .calls)) ≡ bytes
+body-again bytes b e = again-within (length bytes) bytes (omega arith) b e
+
+-- so is a whole file
+module _ (bytes : List ℕ) (b : Bytes bytes) (n flags ls la : ℕ) where
+  found-again : (h : Header) → headers.Finds bytes h → h ≡ header.Read n flags ls la → headerBytes n flags ls la ++ drop headers.headerBytes bytes ≡ bytes
+  found-again h (headers.too-long l) e = let z : _≡_ {A = ℕ} 0 1 = cc in absurd (omega arith)
+  found-again h (headers.no-header s m) e = let z : _≡_ {A = ℕ} 0 1 = cc in absurd (omega arith)
+  found-again h (headers.a-header s m) e =
+      let en : byte bytes 2 ≡ n = cc in
+      let ef : number16 bytes 3 ≡ flags = cc in
+      let es : number32 bytes 5 ≡ ls = cc in
+      let ea : number32 bytes 9 ≡ la = cc in
+      fields (sym en) (sym ef) (sym es) (sym ea) ∙ header-again bytes b m
+    where
+      fields : {x y z w x′ y′ z′ w′ : ℕ} → x ≡ x′ → y ≡ y′ → z ≡ z′ → w ≡ w′
+          → headerBytes x y z w ++ drop headers.headerBytes bytes ≡ headerBytes x′ y′ z′ w′ ++ drop headers.headerBytes bytes
+      fields p q r s = rw (p, q, r, s)
+
+  pub file-again : headerOf bytes ≡ header.Read n flags ls la → {calls : List Call}
+      → reading.callsOf (drop headers.headerBytes bytes) ≡ record { calls = calls; ending = ended } → fileOf n flags ls la (map rawFor calls) ≡ bytes
+  unfolding fileOf
+  file-again h e =
+      let rest : List ℕ = drop headers.headerBytes bytes in
+      ap (λ (cs : Calls). headerBytes n flags ls la ++ bodyOf (map rawFor (cs .calls))) (sym e)
+      ∙ ap (λ (body : List ℕ). headerBytes n flags ls la ++ body) (body-again rest (drop-bytes b headers.headerBytes) (ap (λ (cs : Calls). cs .ending) e))
+      ∙ found-again (headerOf bytes) (headers.header-finds bytes) h

@@ -1,0 +1,132 @@
+// The bytes of one record, put at the front of a lent part of the buffer. Each function answers how many bytes it wrote.
+use raw_records::raw::RawRecord;
+ghost use mathlib.Core.Path.{_≡_};
+ghost use Prim.Native.Nat.{_≤_};
+ghost use lib.ListN.{length};
+ghost use Rattle.fields.specs.Placed.{Wrote};
+ghost use Rattle.raw_records.specs.declared.raw.RawRecord.the-variants.{Term, Step};
+ghost use Rattle.writer.specs.File.{low, headerBytes, recordBytes};
+
+// The lowest byte.
+fn low(x: u32) -> u8
+    ensures { λ r. ⌜ r ≡ low x ⌝ }
+{
+    (x % 256) as u8
+}
+
+// HD, n, flags, Ls, La.
+pub fn write_header(out: &mut [u8], n: u8, flags: u16, ls: u32, la: u32) -> usize
+    requires { ⌜ 13 ≤ length (now out) ⌝ }
+    ensures { λ r. ⌜ Wrote (now (out .entry)) 0 (headerBytes n flags ls la) (now (out .exit)) r ⌝ }
+{
+    let flags_low = flags as u32;
+    let flags_high = flags_low / 256;
+    let ls_upper = ls / 65536;
+    let ls_first = ls_upper / 256;
+    let ls_third = ls / 256;
+    let la_upper = la / 65536;
+    let la_first = la_upper / 256;
+    let la_third = la / 256;
+    let record = [
+        0x48,
+        0x44,
+        n,
+        low(flags_high),
+        low(flags_low),
+        low(ls_first),
+        low(ls_upper),
+        low(ls_third),
+        low(ls),
+        low(la_first),
+        low(la_upper),
+        low(la_third),
+        low(la),
+    ];
+    bytes::copy(&record, out)
+}
+
+// TM, kind, L, R.
+fn write_term(out: &mut [u8], kind: u32, l: u32, r: u32) -> usize
+    requires { ⌜ 7 ≤ length (now out) ⌝ }
+    ensures { λ x. ⌜ Wrote (now (out .entry)) 0 (recordBytes (Term kind l r)) (now (out .exit)) x ⌝ }
+{
+    let l_high = l / 256;
+    let r_high = r / 256;
+    let record = [
+        0x54,
+        0x4D,
+        low(kind),
+        low(l_high),
+        low(l),
+        low(r_high),
+        low(r),
+    ];
+    bytes::copy(&record, out)
+}
+
+// ST, step, run, a, b, m, t.
+fn write_step(out: &mut [u8], step: u32, run: u32, a: u32, b: u32, m: u32, t: u32) -> usize
+    requires { ⌜ 12 ≤ length (now out) ⌝ }
+    ensures { λ x. ⌜ Wrote (now (out .entry)) 0 (recordBytes (Step step run a b m t)) (now (out .exit)) x ⌝ }
+{
+    let m_high = m / 256;
+    let t_upper = t / 65536;
+    let t_first = t_upper / 256;
+    let t_third = t / 256;
+    let record = [
+        0x53,
+        0x54,
+        low(step),
+        low(run),
+        low(a),
+        low(b),
+        low(m_high),
+        low(m),
+        low(t_first),
+        low(t_upper),
+        low(t_third),
+        low(t),
+    ];
+    bytes::copy(&record, out)
+}
+
+// A record; what is none has no bytes.
+pub fn write_record(out: &mut [u8], raw: RawRecord) -> usize
+    requires { ⌜ length (recordBytes raw) ≤ length (now out) ⌝ }
+    ensures { λ r. ⌜ Wrote (now (out .entry)) 0 (recordBytes raw) (now (out .exit)) r ⌝ }
+{
+    match raw {
+        RawRecord::Term { kind, l, r } => write_term(out, kind, l, r),
+        RawRecord::Step {
+            step,
+            run,
+            a,
+            b,
+            m,
+            t,
+        } => write_step(out, step, run, a, b, m, t),
+        RawRecord::Unknown => 0,
+    }
+}
+
+// How many bytes a record takes.
+pub fn record_bytes(raw: RawRecord) -> usize
+    ensures { λ r. ⌜ r ≡ length (recordBytes raw) ⌝ }
+{
+    match raw {
+        RawRecord::Term {
+            kind: _,
+            l: _,
+            r: _,
+        } => 7,
+        RawRecord::Step {
+            step: _,
+            run: _,
+            a: _,
+            b: _,
+            m: _,
+            t: _,
+        } => 12,
+        RawRecord::Unknown => 0,
+    }
+}
