@@ -6,4 +6,4 @@ pub mod Calls
 pub mod Capped
 pub mod Passing
 pub mod Fit
-pub mod Past
+pub mod Apart

@@ -18,7 +18,7 @@ use Rattle.walkfile.specs.Listing.{newTables}
 use Rattle.walkfile.specs.Walking.{Walkable}
 
 -- the tables that `walkfile` makes for a realm that was opened
-lends : (h : Realm) → Lends h (newTables h)
+pub lends : (h : Realm) → Lends h (newTables h)
 unfolding newTables
 lends h =
     record {

@@ -86,6 +86,12 @@ module _ (n flags ls la : ℕ) (words buffer : List ℕ) (at : ℕ) where
       let c = counted k buffer at (fileOf n flags ls la (recordsOf words)) count after e in
       record { passed = accepted n flags ls la (recordsOf words) (length buffer) at (c .0); count-is = c .1; after-is = c .2 }
 
+  -- "It writes only what the reader takes past 1 to 6 on its own fields": the file is short enough, its header passes 2 and its
+  -- records pass by their own fields. Which records the engine then refuses is in `written_walks`.
+  pub written-passes : (count : ℕ) (after : List ℕ) → writeOf n flags ls la words buffer at ≡ writeOutcome (Count count) after
+      → Accepted n flags ls la (recordsOf words) (length buffer) at
+  written-passes count after e = done count after e .passed
+
   -- "What it wrote is read back as the same records": the bytes at the offset, as many as were counted, are a file of this header
   -- and these records.
   pub read-back : n < 2 ^ 8 → flags < 2 ^ 16 → ls < 2 ^ 32 → la < 2 ^ 32 → Words words → (count : ℕ) (after : List ℕ)

@@ -4,13 +4,13 @@
 -- Assumes nothing.
 use Prim.Native.Nat.{ℕ, zero, suc, _<_, _≤_}
 use mathlib.Core.Bool.{Bool, true, false, not, _&&_, cond}
-use mathlib.Core.List.{List}
+use mathlib.Core.List.{List, _∷_}
 use mathlib.Core.Logic.{_⊎_, inl, inr}
 use mathlib.Core.Path.{_≡_, refl}
 use native.Mathlib.Decide.{ℕ-discrete}
 use native.Mathlib.Omega.{arith}
 use lib.Dec.{leb, eqb}
-use borrow.Author.Tests.{eq-eqb}
+use borrow.Author.Tests.{eq-eqb, ne-eqb}
 use Rattle.terms.specs.Meaning.{messageAt}
 use Rattle.sending.specs.Send.{fitsIn}
 use Rattle.exchange.specs.declared.run.Row.{Row}
@@ -30,7 +30,7 @@ use Rattle.rows.specs.Runs.{runAt}
 use Rattle.replay.specs.declared.entry.Entry.{Entry}
 use Rattle.realm.specs.declared.header.Realm.{Realm}
 use Rattle.realm.specs.declared.input.Step.{Step}
-use Rattle.realm.specs.Input.{usesTable, usesOf, unusedZero, inRange, inputRefusal}
+use Rattle.realm.specs.Input.{usesTable, usesOf, unusedZero, inRange, inputRefusal, passed}
 use Rattle.realm.specs.Tables.{Tables}
 use Rattle.conditions.specs.Conditions.{derivableAt, ticketLives, admission}
 use Rattle.conditions.specs.Promises.{admission-refusals}
@@ -141,60 +141,74 @@ of-fields step here = (there here, under 4 (omega arith))
 of-fields step (there here) = (there (there here), under 5 (omega arith))
 of-fields step (there (there here)) = (there (there (there here)), under 6 (omega arith))
 
-of-state : (step : ℕ) (d : Bool) (v : Verdict) → Tells (refusalsOf step) d v → Tells (allOf step) d v
-of-state step d (Takes x) h = h
-of-state step d (Refused k) (i, p) = (there (there (there (there i))), p)
+not-zero : {k : ℕ} → k ∈ fieldRefusals → k ≡ 0 → ⊥
+not-zero here e = omega arith
+not-zero (there here) e = omega arith
+not-zero (there (there here)) e = omega arith
 
 -- after a test of the run, or of room for one, or of the clock
-tested : (step : ℕ) (d ok : Bool) (k : ℕ) (v : Verdict) → k ∈ refusalsOf step → k < 15 → Tells (refusalsOf step) d v → Tells (allOf step) d (need ok k v)
-tested step d ok k v i h w = of-state step d (need ok k v) (tells-need (refusalsOf step) d ok k v i (under k h) w)
+tested : (step : ℕ) (d ok : Bool) (k : ℕ) (v : Verdict) → k ∈ refusalsOf step → k < 15 → Tells (refusalsOf step) d v → Tells (refusalsOf step) d (need ok k v)
+tested step d ok k v i h w = tells-need (refusalsOf step) d ok k v i (under k h) w
 
 module _ (t : Tables) where
   abbrev fields : (step r a b m now : ℕ) → Step
   fields step r a b m now = record { step = step; run = r; a = a; b = b; m = m; t = now }
 
-  by-step : (step r a b m now : ℕ) → Tells (allOf step) (askedFor t (fields step r a b m now)) (stepOf t (fields step r a b m now))
+  by-step : (step r a b m now : ℕ) → 1 ≤ step → step ≤ 10 → Tells (refusalsOf step) (askedFor t (fields step r a b m now)) (stepOf t (fields step r a b m now))
   unfolding stepOf opensRun issues authenticates takes finishes ticks queries askedFor usesTable
-  by-step zero r a b m now = (there here, under 4 (omega arith))
-  by-step (suc zero) r a b m now = tested 1 true (roomForRun (t .realm)) 13 _ here (omega arith) refl
-  by-step (suc (suc zero)) r a b m now = tested 2 true (roomForRun (t .realm)) 13 _ here (omega arith) refl
-  by-step (suc (suc (suc zero))) r a b m now =
+  by-step zero r a b m now low high = absurd (omega arith)
+  by-step (suc zero) r a b m now low high = tested 1 true (roomForRun (t .realm)) 13 _ here (omega arith) refl
+  by-step (suc (suc zero)) r a b m now low high = tested 2 true (roomForRun (t .realm)) 13 _ here (omega arith) refl
+  by-step (suc (suc (suc zero))) r a b m now low high =
       tested 3 (can (t .realm) (t .terms) (t .wire) m) (roomForRun (t .realm)) 13 _ here (omega arith)
       (on-request (t .realm) (t .terms) (t .wire) m (requestIn (messageAt (t .terms) m)))
-  by-step (suc (suc (suc (suc zero)))) r a b m now =
+  by-step (suc (suc (suc (suc zero)))) r a b m now low high =
       let own = runAt (t .runs) r in
       tested 4 (can (t .realm) (t .terms) (t .wire) m) (meets (needOf 4) own) 11 _ here (omega arith)
       (on-reply (t .realm) (t .terms) (t .wire) m r own (replyIn (messageAt (t .terms) m)))
-  by-step (suc (suc (suc (suc (suc zero))))) r a b m now =
+  by-step (suc (suc (suc (suc (suc zero))))) r a b m now low high =
       let own = runAt (t .runs) r in
       tested 5 (can (t .realm) (t .terms) (t .wire) m) (meets (needOf 5) own) 11 _ here (omega arith)
       (on-delivery (t .realm) (t .terms) (t .wire) m r own (t .cache) (deliveryIn (messageAt (t .terms) m)))
-  by-step (suc (suc (suc (suc (suc (suc zero)))))) r a b m now =
+  by-step (suc (suc (suc (suc (suc (suc zero)))))) r a b m now low high =
       let own = runAt (t .runs) r in
       tested 6 (can (t .realm) (t .terms) (t .wire) m) (meets (needOf 6) own) 11 _ here (omega arith)
       (on-confirmation (t .realm) (t .terms) (t .wire) m r own (confirmationIn (messageAt (t .terms) m)))
-  by-step (suc (suc (suc (suc (suc (suc (suc zero))))))) r a b m now = tested 7 true (leb (t .realm .clock) now) 12 _ here (omega arith) refl
-  by-step (suc (suc (suc (suc (suc (suc (suc (suc zero)))))))) r a b m now = refl
-  by-step (suc (suc (suc (suc (suc (suc (suc (suc (suc zero))))))))) r a b m now =
+  by-step (suc (suc (suc (suc (suc (suc (suc zero))))))) r a b m now low high = tested 7 true (leb (t .realm .clock) now) 12 _ here (omega arith) refl
+  by-step (suc (suc (suc (suc (suc (suc (suc (suc zero)))))))) r a b m now low high = refl
+  by-step (suc (suc (suc (suc (suc (suc (suc (suc (suc zero))))))))) r a b m now low high =
       tested 9 true (meets (needOf 9) (runAt (t .runs) r)) 11 _ here (omega arith) refl
-  by-step (suc (suc (suc (suc (suc (suc (suc (suc (suc (suc zero)))))))))) r a b m now =
+  by-step (suc (suc (suc (suc (suc (suc (suc (suc (suc (suc zero)))))))))) r a b m now low high =
       let d = can (t .realm) (t .terms) (t .wire) m in
-      of-state 10 d (need d 15 (Takes (nothing (t .realm .clock)))) (tells-derivable (refusalsOf 10) d _ here (λ e. e))
-  by-step (suc (suc (suc (suc (suc (suc (suc (suc (suc (suc (suc step))))))))))) r a b m now = (there here, under 4 (omega arith))
+      tells-derivable (refusalsOf 10) d _ here (λ e. e)
+  by-step (suc (suc (suc (suc (suc (suc (suc (suc (suc (suc (suc step))))))))))) r a b m now low high = absurd (omega arith)
 
-  any-fields : {d : Bool} (s : Step) → (inputRefusal (t .realm) s ≡ 0) ⊎ (inputRefusal (t .realm) s ∈ fieldRefusals)
-      → (inputRefusal (t .realm) s ≡ 0) ⊎ ((inputRefusal (t .realm) s ∈ allOf (s .step)) × Parted d (inputRefusal (t .realm) s))
-  any-fields s (inl e) = inl e
-  any-fields s (inr i) = inr (of-fields (s .step) i)
+  with-room : (ns : List ℕ) (d : Bool) (v : Verdict) → Tells ns d v → Tells (20 ∷ ns) d (roomed t v)
+  with-room ns d (Refused k) (i, p) = (there i, p)
+  with-room ns d (Takes x) e =
+      tells-need (20 ∷ ns) d (fitsIn (t .terms) (t .realm .terms) (messagesOf (x .sends))) 20 (Takes x) here (over 20 (omega arith) e) e
 
-  with-room : (step : ℕ) (d : Bool) (v : Verdict) → Tells (allOf step) d v → Tells (allOf step) d (roomed t v)
-  with-room step d (Refused k) h = h
-  with-room step d (Takes x) e =
-      tells-need (allOf step) d (fitsIn (t .terms) (t .realm .terms) (messagesOf (x .sends))) 20 (Takes x) here (over 20 (omega arith) e) e
+  -- behind its fields, a step has the refusals of the last column and 20
+  pub state-tells : (s : Step) → inputRefusal (t .realm) s ≡ 0 → Tells (20 ∷ refusalsOf (s .step)) (askedFor t s) (decision t s)
+  unfolding decision decided
+  state-tells s e =
+      let p = passed (t .realm) s e in
+      rw (eq-eqb (inputRefusal (t .realm) s) 0 e)
+      (with-room (refusalsOf (s .step)) (askedFor t s) (stepOf t s) (by-step (s .step) (s .run) (s .a) (s .b) (s .m) (s .t) (p .low) (p .high)))
+
+  of-state : (step : ℕ) (d : Bool) (v : Verdict) → Tells (20 ∷ refusalsOf step) d v → Tells (allOf step) d v
+  of-state step d (Takes x) h = h
+  of-state step d (Refused k) (here, p) = (here, p)
+  of-state step d (Refused k) (there i, p) = (there (there (there (there i))), p)
+
+  -- its fields come first
+  pub fields-refuse : (s : Step) → (inputRefusal (t .realm) s ≡ 0 → ⊥) → decision t s ≡ Refused (inputRefusal (t .realm) s)
+  unfolding decision decided
+  fields-refuse s n = rw (ne-eqb (inputRefusal (t .realm) s) 0 n)
+
+  of-number : (s : Step) → (inputRefusal (t .realm) s ≡ 0) ⊎ (inputRefusal (t .realm) s ∈ fieldRefusals) → Tells (allOf (s .step)) (askedFor t s) (decision t s)
+  of-number s (inl e) = of-state (s .step) (askedFor t s) (decision t s) (state-tells s e)
+  of-number s (inr i) = rw (fields-refuse s (λ z. not-zero i z)) (of-fields (s .step) i)
 
   pub tells : (s : Step) → Tells (allOf (s .step)) (askedFor t s) (decision t s)
-  unfolding decision decided
-  tells s =
-      let d = askedFor t s in
-      with-room (s .step) d (decided t s) (tells-number (allOf (s .step)) d (inputRefusal (t .realm) s) (stepOf t s) (any-fields s (fields-number (t .realm) s))
-      (by-step (s .step) (s .run) (s .a) (s .b) (s .m) (s .t)))
+  tells s = of-number s (fields-number (t .realm) s)
