@@ -1,4 +1,4 @@
--- A call, its answer and a listing as the numbers that cross to other languages.
+-- A call, its answer, a listing and a written walk as the numbers that cross to other languages.
 -- Assumes nothing.
 use Prim.Native.Nat.{ℕ}
 use mathlib.Core.Path.{_≡_}
@@ -12,6 +12,10 @@ use Rattle.realm.specs.Tables.{Tables}
 use Rattle.effects.specs.Apply.{Outcome}
 use Rattle.calls.specs.declared.Called.{Called}
 use Rattle.walkfile.specs.Listing as listing
+use Rattle.writer.specs.declared.walk.Written.{Written}
+use Rattle.writer.specs.declared.walk.Written.the-variants as writing
+use Rattle.writer.specs.Write.{WriteOutcome}
+use Rattle.exported.specs.declared.Filed.{Filed}
 use Rattle.exported.specs.declared.Listed.{Listed}
 use Rattle.exported.specs.declared.Record.{Record}
 use Rattle.exported.specs.declared.Reply.{Reply}
@@ -49,6 +53,17 @@ replied o = (replyOf (record { realm = o .tables .realm; answer = o .answer }), 
 abbrev pub shown : listing.ListOutcome → Listed × List ℕ
 shown (listing.written count buffer) = (record { fits = true; count = count }, buffer)
 shown (listing.no-room buffer) = (record { fits = false; count = 0 }, buffer)
+
+-- ---- a walk written
+
+-- the refusal's number or 0, and the number of bytes or 0
+abbrev pub filedAs : Written → Filed
+filedAs (writing.Count count) = record { refusal = 0; count = count }
+filedAs (writing.Refused number) = record { refusal = number; count = 0 }
+
+-- and the buffer
+abbrev pub filed : WriteOutcome → Filed × List ℕ
+filed o = (filedAs (o .answer), o .buffer)
 
 -- ---- laws
 

@@ -1,5 +1,5 @@
-// The public call, and the listing of a walk file, for programs in other languages. An exported function takes numbers, slices
-// and structs of numbers, so calls and answers are structs of numbers here.
+// The public call, the listing of a walk file, and a walk written as a file, for programs in other languages. An exported function
+// takes numbers, slices and structs of numbers, so calls and answers are structs of numbers here.
 use calls::Called;
 use calls::call;
 use exchange::call::Answer;
@@ -8,11 +8,14 @@ use realm::header::Realm;
 use replay::entry::Entry;
 use walkfile::Listing;
 use walkfile::list;
+use writer::walk::Written;
+use writer::walk::write_walk;
 ghost use mathlib.Core.Path.{_≡_};
 ghost use Rattle.realm.specs.Tables.{tables};
 ghost use Rattle.calls.specs.Lent.{lentCall};
 ghost use Rattle.walkfile.specs.Listing.{listed};
-ghost use Rattle.exported.specs.Numbers.{callOf, replyOf, replied, shown};
+ghost use Rattle.writer.specs.Write.{writeOf};
+ghost use Rattle.exported.specs.Numbers.{callOf, replyOf, replied, shown, filed};
 
 // A call: a term where `adds`, with the next three fields, or else a step, with the others.
 // Fields that are not used may hold anything.
@@ -129,5 +132,32 @@ pub extern "C" fn pogandir_list(file: &[u8], out: &mut [u8]) -> Listed
             fits: false,
             count: 0,
         },
+    }
+}
+
+// The number of the refusal, or 0, and how many bytes were written, or else 0.
+#[repr(C)]
+pub struct Filed {
+    pub refusal: u8,
+    pub count: usize,
+}
+
+// A header and a list of records as a walk file, into the buffer from an offset on: seven words a record, its mark and then its
+// fields in the order of the file. Nothing is required of what is lent.
+#[no_mangle]
+pub extern "C" fn pogandir_write(
+    n: u8,
+    flags: u16,
+    ls: u32,
+    la: u32,
+    words: &[u32],
+    out: &mut [u8],
+    at: usize,
+) -> Filed
+    ensures { λ r. ⌜ (r, now (out .exit)) ≡ filed (writeOf n flags ls la (now (words .entry)) (now (out .entry)) at) ⌝ }
+{
+    match write_walk(n, flags, ls, la, words, out, at) {
+        Written::Count(count) => Filed { refusal: 0, count },
+        Written::Refused(refusal) => Filed { refusal, count: 0 },
     }
 }
