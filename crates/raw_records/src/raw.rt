@@ -1,5 +1,7 @@
 // The list of records that is handed in: seven words a record, its mark and then its fields in the order of the file. A term has
 // three fields; the words after them are not read.
+use records::record::STEP_MARK;
+use records::record::TERM_MARK;
 ghost use mathlib.Core.Path.{_≡_};
 ghost use Prim.Native.Nat.{_+_, _≤_};
 ghost use lib.ListN.{length};
@@ -7,11 +9,6 @@ ghost use Rattle.raw_records.specs.Raw.{rawAt};
 
 // Words in a record.
 pub const RECORD_WORDS: usize = 7;
-
-// The letters TM and ST.
-const TERM_MARK: u32 = 0x544D;
-
-const STEP_MARK: u32 = 0x5354;
 
 // A record as it was handed in: any numbers.
 pub enum RawRecord {
@@ -38,14 +35,14 @@ pub fn raw_at(words: &[u32], at: usize) -> RawRecord
     ensures { λ r. ⌜ r ≡ rawAt (now (words .entry)) at ⌝ }
 {
     let mark = words[at];
-    if mark == TERM_MARK {
+    if mark == TERM_MARK as u32 {
         return RawRecord::Term {
             kind: words[at + 1],
             l: words[at + 2],
             r: words[at + 3],
         };
     }
-    if mark == STEP_MARK {
+    if mark == STEP_MARK as u32 {
         return RawRecord::Step {
             step: words[at + 1],
             run: words[at + 2],

@@ -6,18 +6,24 @@ use realm::header::Realm;
 use realm::input::Step;
 use realm::input::input_refusal;
 use records::record::REFUSE_RECORD;
+use terms::rules::LAST_NUMBER;
 use terms::rules::REFUSE_KIND;
 use terms::rules::REFUSE_RANGE;
 use terms::rules::REFUSE_UNUSED;
+use words::ENCRYPTED;
+use words::LONG_TERM_KEY;
+use words::NONCE;
+use words::PAIR;
+use words::PRINCIPAL;
+use words::SESSION_KEY;
+use words::TIME;
 ghost use mathlib.Core.Path.{_≡_};
 ghost use Rattle.raw_records.specs.Raw.{recordsOf};
 ghost use Rattle.raw_records.specs.Refusals.{first, limitOf, termRefusal, stepRefusal, ownRefusal, recordsRefusal};
 ghost use Rattle.raw_records.specs.Capped.{capped, wideRefusal};
 
-const LAST_KIND: u32 = 6;
-
 // One more than the last nonce and session key.
-const NUMBERS: u32 = 96;
+const NUMBERS: u32 = LAST_NUMBER as u32 + 1;
 
 // One more than the largest number of one and of two bytes.
 const BYTES_1: u32 = 256;
@@ -35,25 +41,25 @@ pub fn first(a: u8, b: u8) -> u8
 }
 
 // The first L that is out of range.
-fn limit_of(n: u8, kind: u32) -> u32
+fn limit_of(n: u8, kind: u64) -> u32
     ensures { λ r. ⌜ r ≡ limitOf n kind ⌝ }
 {
-    if (kind == 0) | (kind == 3) {
+    if (kind == PRINCIPAL) | (kind == LONG_TERM_KEY) {
         return n as u32;
     }
-    if (kind == 2) | (kind == 4) {
+    if (kind == NONCE) | (kind == SESSION_KEY) {
         return NUMBERS;
     }
     BYTES_2
 }
 
-fn term_refusal(n: u8, kind: u32, l: u32, r: u32) -> u8
+fn term_refusal(n: u8, kind: u64, l: u32, r: u32) -> u8
     ensures { λ x. ⌜ x ≡ termRefusal n kind l r ⌝ }
 {
-    if LAST_KIND < kind {
+    if ENCRYPTED < kind {
         return REFUSE_KIND;
     }
-    if !((kind == 1) | (kind == 5) | (kind == 6) | (r == 0)) {
+    if !((kind == TIME) | (kind == PAIR) | (kind == ENCRYPTED) | (r == 0)) {
         return REFUSE_UNUSED;
     }
     if (l < limit_of(n, kind)) & (r < BYTES_2) {
@@ -121,7 +127,7 @@ fn own_refusal(n: u8, raw: RawRecord) -> u8
     ensures { λ r. ⌜ r ≡ ownRefusal n raw ⌝ }
 {
     match raw {
-        RawRecord::Term { kind, l, r } => term_refusal(n, kind, l, r),
+        RawRecord::Term { kind, l, r } => term_refusal(n, kind as u64, l, r),
         RawRecord::Step {
             step,
             run,

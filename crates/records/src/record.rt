@@ -9,13 +9,13 @@ ghost use lib.ListN.{length};
 ghost use Rattle.records.specs.Records.{termCall, stepCall, recordAt};
 
 // The letters TM and ST.
-const TERM_MARK: u16 = 0x544D;
+pub const TERM_MARK: u16 = 0x544D;
 
-const STEP_MARK: u16 = 0x5354;
+pub const STEP_MARK: u16 = 0x5354;
 
-const TERM_BYTES: usize = 7;
+pub const TERM_BYTES: usize = 7;
 
-const STEP_BYTES: usize = 12;
+pub const STEP_BYTES: usize = 12;
 
 pub const REFUSE_RECORD: u8 = 3;
 

@@ -1,5 +1,7 @@
 // The bytes of one record, put at the front of a lent part of the buffer. Each function answers how many bytes it wrote.
 use raw_records::raw::RawRecord;
+use records::record::STEP_BYTES;
+use records::record::TERM_BYTES;
 ghost use mathlib.Core.Path.{_≡_};
 ghost use Prim.Native.Nat.{_≤_};
 ghost use lib.ListN.{length};
@@ -28,8 +30,8 @@ pub fn write_header(out: &mut [u8], n: u8, flags: u16, ls: u32, la: u32) -> usiz
     let la_first = la_upper / 256;
     let la_third = la / 256;
     let record = [
-        0x48,
-        0x44,
+        b'H',
+        b'D',
         n,
         low(flags_high),
         low(flags_low),
@@ -53,8 +55,8 @@ fn write_term(out: &mut [u8], kind: u32, l: u32, r: u32) -> usize
     let l_high = l / 256;
     let r_high = r / 256;
     let record = [
-        0x54,
-        0x4D,
+        b'T',
+        b'M',
         low(kind),
         low(l_high),
         low(l),
@@ -74,8 +76,8 @@ fn write_step(out: &mut [u8], step: u32, run: u32, a: u32, b: u32, m: u32, t: u3
     let t_first = t_upper / 256;
     let t_third = t / 256;
     let record = [
-        0x53,
-        0x54,
+        b'S',
+        b'T',
         low(step),
         low(run),
         low(a),
@@ -118,7 +120,7 @@ pub fn record_bytes(raw: RawRecord) -> usize
             kind: _,
             l: _,
             r: _,
-        } => 7,
+        } => TERM_BYTES,
         RawRecord::Step {
             step: _,
             run: _,
@@ -126,7 +128,7 @@ pub fn record_bytes(raw: RawRecord) -> usize
             b: _,
             m: _,
             t: _,
-        } => 12,
+        } => STEP_BYTES,
         RawRecord::Unknown => 0,
     }
 }

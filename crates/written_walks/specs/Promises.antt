@@ -1,68 +1,61 @@
--- "It writes only what the reader takes past 1 to 6 on its own fields (what depends on the walk's runs and terms apart)" (document 02,
--- change 1), of the public call and of a walk that was written. What depends on the walk is `present` of `raw_records`: a run and a
--- term that are used are present, and a lock's key is a key. Answers and Walks have the two definitions.
+-- What is promised of a walk that was written (document 02, change 1), of the writer and so of `pogandir_write`. The contract of
+-- `write_walk` is the equation of its answer and of the whole buffer with `writeOf` (writer/specs/Write, over File and over the
+-- records and refusals of `raw_records`); these are laws of `writeOf`. What the engine then answers to the records is in
+-- `written_answers`.
 -- Assumes nothing.
-use mathlib.Core.Path.{_≡_, refl, sym, _∙_}
-use mathlib.Core.Bool.{false}
-use mathlib.Core.List.{List}
-use Prim.Native.Nat.{ℕ, _^_, _<_}
-use native.Mathlib.Omega.{arith}
-use Rattle.exchange.specs.declared.call.Answer.the-variants.{Refused}
+use mathlib.Core.Path.{_≡_, ap, subst}
+use mathlib.Core.Bool.{true}
+use mathlib.Core.List.{List, map}
+use Prim.Native.Nat.{ℕ, _+_, _^_, _<_, _≤_}
+use lib.ListN.{length, take, drop}
 use Rattle.exchange.specs.declared.call.Call.{Call}
-use Rattle.exchange.specs.Calls.{Sized}
-use Rattle.realm.specs.declared.header.Opening.the-variants.{Open}
-use Rattle.realm.specs.declared.header.Realm.{Realm}
-use Rattle.realm.specs.Opening.{newRealm, openingOf, opened}
-use Rattle.realm.specs.Promises.{new-together}
-use Rattle.realm.specs.Tables.{Tables, Together}
-use Rattle.effects.specs.Apply.{refuse}
-use Rattle.calls.specs.Lent.{lentCall}
-use Rattle.calls.specs.Same.{lent-called}
-use Rattle.walkfile.specs.Listing.{newTables}
-use Rattle.walkfile.specs.Opened.{lends}
-use Rattle.raw_records.specs.Apart.{present}
-use Rattle.raw_records.specs.Calls.{callsOf, rawFor}
-use Rattle.raw_records.specs.Fit.{Words}
-use Rattle.raw_records.specs.Promises.{records-fit}
+use Rattle.fields.specs.Placed.{placed}
+use Rattle.realm.specs.Opening.{headerFits}
+use Rattle.records.specs.Fields.{Bytes}
+use Rattle.raw_records.specs.Calls.{callsOf, rawFor, wordsOf}
+use Rattle.raw_records.specs.Fit.{Words, records-fit}
 use Rattle.raw_records.specs.Raw.{recordsOf}
-use Rattle.raw_records.specs.Refusals.{ownRefusal}
-use Rattle.writer.specs.declared.walk.Written.the-variants.{Count}
-use Rattle.writer.specs.Promises.{written-passes}
-use Rattle.writer.specs.Write.{writeOutcome, writeOf}
-use Rattle.written_walks.specs.Answers.{LeftApart, lent-past, called-absent, called-barred}
-use Rattle.written_walks.specs.Walks as walks
-use Rattle.written_walks.specs.Walks.{TakenPast}
+use Rattle.raw_records.specs.Refusals.{recordsRefusal}
+use Rattle.writer.specs.declared.walk.Written.the-variants.{Count, Refused}
+use Rattle.writer.specs.Write.{writeOutcome, writeOf, Accepted}
+use Rattle.written_walks.specs.ReadBack.{ReadsAs, file-back, written-again}
+use Rattle.written_walks.specs.Written as written
+use Rattle.written_walks.specs.Written.{Done, done, file-at, before-kept, behind-kept}
 
--- ---- one record, on any tables
+-- ---- a walk that was refused
 
--- A record that the writer lets pass is not refused with a number from 1 to 5, and with 6 only for what depends on the walk.
-pub public-past : (t : Tables) (c : Call) → Sized c → ownRefusal (t .realm .n) (rawFor c) ≡ 0 → {k : ℕ} → lentCall t c .answer ≡ Refused k → LeftApart t c k
-public-past t c sized z e = lent-past t c sized z e
-
-module _ (t : Tables) (w : Together t) (c : Call) (sized : Sized c) where
-  -- With 6 it is refused for all that depends on the walk,
-  pub public-absent : ownRefusal (t .realm .n) (rawFor c) ≡ 0 → present (t .realm) (t .terms) c ≡ false → lentCall t c ≡ refuse t 6
-  public-absent z e = lent-called t c w ∙ called-absent t (omega (arith, w .rows-hold .room)) (omega (arith, w .terms-hold .room)) c sized z e
-
-  -- and a record that the writer turns away is refused with the same number.
-  pub public-barred : (ownRefusal (t .realm .n) (rawFor c) ≡ 0 → ⊥) → lentCall t c ≡ refuse t (ownRefusal (t .realm .n) (rawFor c))
-  public-barred n = lent-called t c w ∙ called-barred t (omega (arith, w .rows-hold .room)) (omega (arith, w .terms-hold .room)) c sized n
+-- "Refused, with every byte of the buffer kept"
+pub refused-kept : (n flags ls la : ℕ) (words buffer : List ℕ) (at number : ℕ) (after : List ℕ)
+    → writeOf n flags ls la words buffer at ≡ writeOutcome (Refused number) after → after ≡ buffer
+refused-kept n flags ls la words buffer at number after e = written.refused-kept n flags ls la words buffer at number after e
 
 -- ---- a walk that was written
 
-module _ (n flags ls la : ℕ) (n-fits : n < 2 ^ 8) (ls-fits : ls < 2 ^ 32) (la-fits : la < 2 ^ 32) (words : List ℕ) (w : Words words)
-    (buffer : List ℕ) (at count : ℕ) (after : List ℕ) (e : writeOf n flags ls la words buffer at ≡ writeOutcome (Count count) after) where
-  abbrev realm : Realm
-  realm = newRealm n flags ls la
+module _ (n flags ls la : ℕ) (words buffer : List ℕ) (at count : ℕ) (after : List ℕ) (e : writeOf n flags ls la words buffer at ≡ writeOutcome (Count count) after) where
+  is-done : Done n flags ls la words buffer at count after
+  is-done = done n flags ls la words buffer at count after e
 
-  -- Its header opens a realm,
-  pub walk-opens : openingOf n flags ls la ≡ Open realm
-  walk-opens = sym (opened n flags ls la (written-passes n flags ls la words buffer at count after e .header))
+  -- "It writes only what the reader takes past 1 to 6 on its own fields": the file is short enough, its header passes 2, and its
+  -- records pass by their own fields.
+  pub written-passes : Accepted n flags ls la (recordsOf words) (length buffer) at
+  written-passes = is-done .passed
 
-  -- and none of its records, which are read to the end of the file (`read-back` of `writer`), is refused for its own fields.
-  pub walk-taken : TakenPast (newTables realm) (callsOf (recordsOf words))
-  unfolding newTables
-  walk-taken =
-      let p = written-passes n flags ls la words buffer at count after e in
-      walks.taken-past n (recordsOf words) (records-fit n n-fits words w (p .records)) (p .records) (newTables realm)
-      (new-together n flags ls la realm (newTables realm) ls-fits la-fits walk-opens (lends realm)) refl
+  -- "What it wrote is read back as the same records": the bytes at the offset, as many as were counted, are a file of this header
+  -- and these records, to its end.
+  pub read-back : n < 2 ^ 8 → flags < 2 ^ 16 → ls < 2 ^ 32 → la < 2 ^ 32 → Words words → ReadsAs (take count (drop at after)) n flags ls la (callsOf (recordsOf words))
+  read-back hn hf hs ha w =
+      rw (file-at n flags ls la words buffer at count after is-done)
+      (file-back n flags ls la (recordsOf words) hf hs ha (written-passes .short) (records-fit n hn words w (written-passes .records)))
+
+  -- "All other bytes of the buffer keep their values."
+  pub others-kept : (take at after ≡ take at buffer) × (drop (at + count) after ≡ drop (at + count) buffer)
+  others-kept = (before-kept n flags ls la words buffer at count after is-done, behind-kept n flags ls la words buffer at count after is-done)
+
+-- ---- a file that was read
+
+-- "and a file so read is written back as the same bytes": a header and calls that were read from a file to its end, and that pass
+-- by their own fields
+pub write-back : (bytes : List ℕ) → Bytes bytes → (n flags ls la : ℕ) (calls : List Call) → ReadsAs bytes n flags ls la calls
+    → headerFits n flags ls la ≡ true → recordsRefusal n (map rawFor calls) ≡ 0 → (buffer : List ℕ) (at : ℕ) → at + length bytes ≤ length buffer
+    → writeOf n flags ls la (wordsOf calls) buffer at ≡ writeOutcome (Count (length bytes)) (placed buffer at bytes)
+write-back bytes b n flags ls la calls r fits own buffer at room = written-again bytes b n flags ls la calls r buffer at fits own room

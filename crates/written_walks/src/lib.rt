@@ -1,1 +1,1 @@
-// No code: specs/ has what the engine answers to the records of a walk that was written.
+// No code: specs/ has the laws of a walk that was written: it reads back, and every other byte is kept.

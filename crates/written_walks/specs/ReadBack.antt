@@ -20,8 +20,20 @@ use Rattle.records.specs.Calls.{Calls, ended, broken, then, onward, calls-are, 
 use Rattle.records.specs.Calls as reading
 use Rattle.raw_records.specs.declared.raw.RawRecord.{RawRecord}
 use Rattle.raw_records.specs.declared.raw.RawRecord.the-variants.{Term, Step, Unknown}
 use Rattle.writer.specs.File.{low, high, bytes16, bytes32, headerBytes, recordBytes, bodyOf, fileOf}
-use Rattle.raw_records.specs.Calls.{callsOf, rawFor, Fits, AllFit}
+use Rattle.raw_records.specs.Calls.{callsOf, rawFor, wordsOf, Fits, AllFit, records-for}
+use Rattle.raw_records.specs.Refusals.{recordsRefusal}
+use Rattle.writer.specs.Write.{writeOutcome, byRefusal, writeRefusal, writeOf, Accepted, accepts}
+use Rattle.writer.specs.declared.walk.Written.the-variants.{Count}
+use Rattle.realm.specs.Opening.{headerFits}
+use Rattle.fields.specs.Placed.{placed}
+
+-- ---- definitions
+
+-- a file reads as this header and these calls, to its end
+pub record ReadsAs (bytes : List ℕ) (n flags ls la : ℕ) (calls : List Call) : Type 0 where
+  pub header : headerOf bytes ≡ header.Read n flags ls la
+  pub records : reading.callsOf (drop headers.headerBytes bytes) ≡ record { calls = calls; ending = ended }
 
 -- ---- numbers
 
@@ -63,14 +75,14 @@ step-back step run a b m t rest f =
     (front-step bytes (omega arith) (begins-other termMark 7 bytes (omega arith) (λ z. omega arith)) (begins-here stepMark 12 bytes (omega arith) refl)
     (rw (back8 step (f .0), back8 run (f .1), back8 a (f .2), back8 b (f .3), back16 m (f .4), back32 t (f .5))))
 
-pub body-back : (raws : List RawRecord) → AllFit raws → reading.callsOf (bodyOf raws) ≡ record { calls = callsOf raws; ending = ended }
+body-back : (raws : List RawRecord) → AllFit raws → reading.callsOf (bodyOf raws) ≡ record { calls = callsOf raws; ending = ended }
 body-back [] f = calls-end [] 0 (omega arith)
 body-back (Term kind l r ∷ raws) f = term-back kind l r (bodyOf raws) (f .0) ∙ ap (then (call.Term kind l r)) (body-back raws (f .1))
 body-back (Step step run a b m t ∷ raws) f = step-back step run a b m t (bodyOf raws) (f .0) ∙ ap (then (call.Step step run a b m t)) (body-back raws (f .1))
 body-back (Unknown ∷ raws) f = absurd (f .0)
 
 module _ (n flags ls la : ℕ) (raws : List RawRecord) where
-  pub header-back : flags < 2 ^ 16 → ls < 2 ^ 32 → la < 2 ^ 32 → length (fileOf n flags ls la raws) ≤ maxFile
+  header-back : flags < 2 ^ 16 → ls < 2 ^ 32 → la < 2 ^ 32 → length (fileOf n flags ls la raws) ≤ maxFile
       → headerOf (fileOf n flags ls la raws) ≡ header.Read n flags ls la
   unfolding fileOf headerBytes
   header-back hf hs ha short =
@@ -81,9 +93,13 @@ module _ (n flags ls la : ℕ) (raws : List RawRecord) where
       fields : (x : ℕ) {y z w y′ z′ w′ : ℕ} → y ≡ y′ → z ≡ z′ → w ≡ w′ → header.Read x y z w ≡ header.Read x y′ z′ w′
       fields x p q r = rw (p, q, r)
 
-  pub calls-back : AllFit raws → reading.callsOf (drop headers.headerBytes (fileOf n flags ls la raws)) ≡ record { calls = callsOf raws; ending = ended }
+  calls-back : AllFit raws → reading.callsOf (drop headers.headerBytes (fileOf n flags ls la raws)) ≡ record { calls = callsOf raws; ending = ended }
   unfolding fileOf headerBytes
   calls-back f = body-back raws f
+
+  pub file-back : flags < 2 ^ 16 → ls < 2 ^ 32 → la < 2 ^ 32 → length (fileOf n flags ls la raws) ≤ maxFile → AllFit raws
+      → ReadsAs (fileOf n flags ls la raws) n flags ls la (callsOf raws)
+  file-back hf hs ha short f = record { header = header-back hf hs ha short; records = calls-back f }
 
 -- ---- written back
 
@@ -220,7 +236,7 @@ again-within (suc fuel) bytes h b e = by-front (frontOf bytes) (front-finds byte
         not-ended : {A : Type 0} → broken ≡ ended → A
         not-ended q = let z : _≡_ {A = ℕ} 0 1 = cc in absurd (omega arith)
 
-pub body-again : (bytes : List ℕ) → Bytes bytes → reading.callsOf bytes .ending ≡ ended → bodyOf (map rawFor (reading.callsOf bytes .calls)) ≡ bytes
+body-again : (bytes : List ℕ) → Bytes bytes → reading.callsOf bytes .ending ≡ ended → bodyOf (map rawFor (reading.callsOf bytes .calls)) ≡ bytes
 body-again bytes b e = again-within (length bytes) bytes (omega arith) b e
 
 -- so is a whole file
@@ -239,11 +255,26 @@ module _ (bytes : List ℕ) (b : Bytes bytes) (n flags ls la : ℕ) where
           → headerBytes x y z w ++ drop headers.headerBytes bytes ≡ headerBytes x′ y′ z′ w′ ++ drop headers.headerBytes bytes
       fields p q r s = rw (p, q, r, s)
 
-  pub file-again : headerOf bytes ≡ header.Read n flags ls la → {calls : List Call}
-      → reading.callsOf (drop headers.headerBytes bytes) ≡ record { calls = calls; ending = ended } → fileOf n flags ls la (map rawFor calls) ≡ bytes
+  pub file-again : {calls : List Call} → ReadsAs bytes n flags ls la calls → fileOf n flags ls la (map rawFor calls) ≡ bytes
   unfolding fileOf
-  file-again h e =
+  file-again r =
       let rest : List ℕ = drop headers.headerBytes bytes in
-      ap (λ (cs : Calls). headerBytes n flags ls la ++ bodyOf (map rawFor (cs .calls))) (sym e)
-      ∙ ap (λ (body : List ℕ). headerBytes n flags ls la ++ body) (body-again rest (drop-bytes b headers.headerBytes) (ap (λ (cs : Calls). cs .ending) e))
-      ∙ found-again (headerOf bytes) (headers.header-finds bytes) h
+      ap (λ (cs : Calls). headerBytes n flags ls la ++ bodyOf (map rawFor (cs .calls))) (sym (r .records))
+      ∙ ap (λ (body : List ℕ). headerBytes n flags ls la ++ body) (body-again rest (drop-bytes b headers.headerBytes) (ap (λ (cs : Calls). cs .ending) (r .records)))
+      ∙ found-again (headerOf bytes) (headers.header-finds bytes) (r .header)
+
+-- and the writer puts it there again
+module _ (bytes : List ℕ) (b : Bytes bytes) (n flags ls la : ℕ) (calls : List Call) (r : ReadsAs bytes n flags ls la calls) (buffer : List ℕ) (at : ℕ) where
+  passes : headerFits n flags ls la ≡ true → recordsRefusal n (map rawFor calls) ≡ 0 → at + length bytes ≤ length buffer
+      → Accepted n flags ls la (map rawFor calls) (length buffer) at
+  passes fits own room =
+      let is = file-again bytes b n flags ls la r in
+      record { short = rw is (headers.header-fields bytes n flags ls la (r .header) .most); header = fits; records = own; room = rw is room }
+
+  pub written-again : headerFits n flags ls la ≡ true → recordsRefusal n (map rawFor calls) ≡ 0 → at + length bytes ≤ length buffer
+      → writeOf n flags ls la (wordsOf calls) buffer at ≡ writeOutcome (Count (length bytes)) (placed buffer at bytes)
+  unfolding writeOf
+  written-again fits own room =
+      ap (λ (raws : List RawRecord). byRefusal (writeRefusal n flags ls la raws (length buffer) at) buffer at (fileOf n flags ls la raws)) (records-for calls)
+      ∙ ap (λ (k : ℕ). byRefusal k buffer at (fileOf n flags ls la (map rawFor calls))) (accepts n flags ls la (map rawFor calls) (length buffer) at (passes fits own room))
+      ∙ ap (λ (file : List ℕ). writeOutcome (Count (length file)) (placed buffer at file)) (file-again bytes b n flags ls la r)

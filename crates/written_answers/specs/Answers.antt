@@ -25,7 +25,7 @@ use Rattle.raw_records.specs.Apart.{fieldsRefusal, present}
 use Rattle.raw_records.specs.Calls.{rawFor}
 use Rattle.raw_records.specs.Promises.{fields-apart}
 use Rattle.raw_records.specs.Refusals.{first, ownRefusal}
-use Rattle.written_walks.specs.Numbers.{ByFields, call-number, fields-told}
+use Rattle.written_answers.specs.Numbers.{ByFields, call-number, fields-told}
 
 -- ---- definitions
 

@@ -19,7 +19,7 @@ use Rattle.raw_records.specs.declared.raw.RawRecord.{RawRecord}
 use Rattle.raw_records.specs.declared.raw.RawRecord.the-variants.{Term, Step, Unknown}
 use Rattle.raw_records.specs.Calls.{callsOf, rawFor, AllFit}
 use Rattle.raw_records.specs.Refusals.{first-zero, ownRefusal, recordsRefusal}
-use Rattle.written_walks.specs.Answers.{LeftApart, called-past}
+use Rattle.written_answers.specs.Answers.{LeftApart, called-past}
 
 -- ---- definitions
 
