@@ -4,13 +4,13 @@ use mathlib.Core.Path.{_≡_, refl}
 use mathlib.Core.List.{List, [], _∷_, _++_}
 use Prim.Native.Nat.{ℕ}
 use lib.ListN.{replicate}
-use Rattle.fields.specs.Placed.{placed}
 use Rattle.marks.specs.Bits.{bit}
 use Rattle.marks.specs.Marks.{isSet}
 use Rattle.realm.specs.Input.{usesTable, inRange, inputRefusal}
 use Rattle.realm.specs.Opening.{headerFits}
 use Rattle.raw_records.specs.Raw.{rawBy, recordsOf}
 use Rattle.raw_records.specs.Refusals.{termRefusal, ownRefusal}
+use Rattle.fields.specs.Placed.{placed}
 use Rattle.writer.specs.declared.walk.Written.the-variants.{Count, Refused}
 use Rattle.writer.specs.File.{headerBytes, recordBytes, fileOf}
 use Rattle.writer.specs.Write.{writeOutcome, writeRefusal, writeOf}

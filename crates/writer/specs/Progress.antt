@@ -7,13 +7,13 @@ use native.Mathlib.Omega.{arith}
 use lib.ListN.{length, take, drop, length-append, length-drop, take-append-drop, drop-of-length-le}
 use lib.Seq.{take-all, drop-drop}
 use borrow.Rule.Slice.PartMut.{midOf, putMid, mid-len}
-use Rattle.fields.specs.Placed.{placed, Wrote, joined, wrote-as}
 use Rattle.records.specs.Headers.{maxFile}
 use Rattle.raw_records.specs.declared.raw.RawRecord.{RawRecord}
 use Rattle.raw_records.specs.declared.raw.RawRecord.the-variants.{Term, Step, Unknown}
 use Rattle.raw_records.specs.Raw.{recordsOf, rawAt, record-next, none-left, cut-short}
-use Rattle.writer.specs.File.{low, high, headerBytes, recordBytes, bodyOf}
 use Rattle.raw_records.specs.Passing.{recordsFrom}
+use Rattle.fields.specs.Placed.{placed, Wrote, joined, wrote-as}
+use Rattle.writer.specs.File.{low, high, headerBytes, recordBytes, bodyOf}
 
 -- ---- definitions
 

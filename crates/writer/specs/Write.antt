@@ -8,15 +8,15 @@ use native.Mathlib.Omega.{arith}
 use borrow.Author.Tests.{lt-leb, le-leb, lt-ltb, le-ltb, ltb-true, ltb-false, leb-true}
 use lib.Dec.{ltb, leb}
 use lib.ListN.{length, length-append}
-use Rattle.fields.specs.Placed.{placed, Wrote}
-use Rattle.records.specs.Headers.{maxFile}
 use Rattle.realm.specs.Opening.{headerFits}
+use Rattle.records.specs.Headers.{maxFile}
 use Rattle.raw_records.specs.declared.raw.RawRecord.{RawRecord}
+use Rattle.raw_records.specs.Raw.{recordsOf}
+use Rattle.raw_records.specs.Refusals.{first, firstOf, first-none, first-zero, recordsRefusal}
+use Rattle.fields.specs.Placed.{placed, Wrote}
 use Rattle.writer.specs.declared.walk.Written.{Written}
 use Rattle.writer.specs.declared.walk.Written.the-variants.{Count, Refused}
-use Rattle.raw_records.specs.Raw.{recordsOf}
 use Rattle.writer.specs.File.{headerBytes, bodyOf, fileOf}
-use Rattle.raw_records.specs.Refusals.{first, firstOf, first-none, first-zero, recordsRefusal}
 use Rattle.writer.specs.Progress.{Measures, header-long}
 
 -- the answer, and the buffer after it

@@ -17,14 +17,14 @@ use Rattle.runs.specs.Lent.{rowsHold}
 use Rattle.runs.specs.Promises.{rows-decided}
 use Rattle.realm.specs.Check.{together, wireHolds, entriesHold}
 use Rattle.realm.specs.Opening.{headerFits}
-use Rattle.realm.specs.Tables.{Tables, Together}
+use Rattle.realm.specs.Tables.{Tables}
 use Rattle.effects.specs.Apply.{Outcome, refuse}
 use Rattle.effects.specs.Call.{called, checked}
-use Rattle.calls.specs.Lent.{lentCall}
 use Rattle.raw_records.specs.Apart.{fieldsRefusal, present}
 use Rattle.raw_records.specs.Calls.{rawFor}
 use Rattle.raw_records.specs.Promises.{fields-apart}
 use Rattle.raw_records.specs.Refusals.{first, ownRefusal}
+use Rattle.calls.specs.Lent.{lentCall}
 use Rattle.written_answers.specs.Numbers.{ByFields, call-number, fields-told}
 
 -- ---- definitions

@@ -16,10 +16,6 @@ use Rattle.realm.specs.Opening.{newRealm, openingOf, opened}
 use Rattle.realm.specs.Promises.{new-together}
 use Rattle.realm.specs.Tables.{Tables, Together}
 use Rattle.effects.specs.Apply.{refuse}
-use Rattle.calls.specs.Lent.{lentCall}
-use Rattle.calls.specs.Same.{lent-called}
-use Rattle.walkfile.specs.Listing.{newTables}
-use Rattle.walkfile.specs.Opened.{lends}
 use Rattle.raw_records.specs.Apart.{present}
 use Rattle.raw_records.specs.Calls.{callsOf, rawFor}
 use Rattle.raw_records.specs.Fit.{Words}
@@ -27,8 +23,12 @@ use Rattle.raw_records.specs.Promises.{records-fit}
 use Rattle.raw_records.specs.Raw.{recordsOf}
 use Rattle.raw_records.specs.Refusals.{ownRefusal}
 use Rattle.writer.specs.declared.walk.Written.the-variants.{Count}
-use Rattle.written_walks.specs.Promises.{written-passes}
 use Rattle.writer.specs.Write.{writeOutcome, writeOf}
+use Rattle.written_walks.specs.Promises.{written-passes}
+use Rattle.walkfile.specs.Listing.{newTables}
+use Rattle.walkfile.specs.Opened.{lends}
+use Rattle.calls.specs.Lent.{lentCall}
+use Rattle.calls.specs.Same.{lent-called}
 use Rattle.written_answers.specs.Answers.{LeftApart, lent-past, called-absent, called-barred}
 use Rattle.written_answers.specs.Walks as walks
 use Rattle.written_answers.specs.Walks.{TakenPast}

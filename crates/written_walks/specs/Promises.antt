@@ -3,19 +3,19 @@
 -- records and refusals of `raw_records`); these are laws of `writeOf`. What the engine then answers to the records is in
 -- `written_answers`.
 -- Assumes nothing.
-use mathlib.Core.Path.{_≡_, ap, subst}
+use mathlib.Core.Path.{_≡_}
 use mathlib.Core.Bool.{true}
 use mathlib.Core.List.{List, map}
 use Prim.Native.Nat.{ℕ, _+_, _^_, _<_, _≤_}
 use lib.ListN.{length, take, drop}
 use Rattle.exchange.specs.declared.call.Call.{Call}
-use Rattle.fields.specs.Placed.{placed}
 use Rattle.realm.specs.Opening.{headerFits}
 use Rattle.records.specs.Fields.{Bytes}
 use Rattle.raw_records.specs.Calls.{callsOf, rawFor, wordsOf}
 use Rattle.raw_records.specs.Fit.{Words, records-fit}
 use Rattle.raw_records.specs.Raw.{recordsOf}
 use Rattle.raw_records.specs.Refusals.{recordsRefusal}
+use Rattle.fields.specs.Placed.{placed}
 use Rattle.writer.specs.declared.walk.Written.the-variants.{Count, Refused}
 use Rattle.writer.specs.Write.{writeOutcome, writeOf, Accepted}
 use Rattle.written_walks.specs.ReadBack.{ReadsAs, file-back, written-again}

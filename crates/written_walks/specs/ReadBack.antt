@@ -10,6 +10,7 @@ use lib.ListN.{length, drop, length-drop}
 use lib.Seq.{drop-cons}
 use Rattle.exchange.specs.declared.call.Call.{Call}
 use Rattle.exchange.specs.declared.call.Call.the-variants as call
+use Rattle.realm.specs.Opening.{headerFits}
 use Rattle.records.specs.declared.header.Header.{Header}
 use Rattle.records.specs.declared.header.Header.the-variants as header
 use Rattle.records.specs.Fields.{Bytes, byte, number16, number32, begins, begins-by, begins-whole, drop-bytes}
@@ -20,13 +21,12 @@ use Rattle.records.specs.Calls.{Calls, ended, broken, then, onward, calls-are, 
 use Rattle.records.specs.Calls as reading
 use Rattle.raw_records.specs.declared.raw.RawRecord.{RawRecord}
 use Rattle.raw_records.specs.declared.raw.RawRecord.the-variants.{Term, Step, Unknown}
-use Rattle.writer.specs.File.{low, high, bytes16, bytes32, headerBytes, recordBytes, bodyOf, fileOf}
 use Rattle.raw_records.specs.Calls.{callsOf, rawFor, wordsOf, Fits, AllFit, records-for}
 use Rattle.raw_records.specs.Refusals.{recordsRefusal}
+use Rattle.fields.specs.Placed.{placed}
+use Rattle.writer.specs.File.{low, high, bytes16, bytes32, headerBytes, recordBytes, bodyOf, fileOf}
 use Rattle.writer.specs.Write.{writeOutcome, byRefusal, writeRefusal, writeOf, Accepted, accepts}
 use Rattle.writer.specs.declared.walk.Written.the-variants.{Count}
-use Rattle.realm.specs.Opening.{headerFits}
-use Rattle.fields.specs.Placed.{placed}
 
 -- ---- definitions
 

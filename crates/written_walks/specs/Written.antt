@@ -6,8 +6,8 @@ use Prim.Native.Nat.{ℕ, zero, suc, _+_, _≤_}
 use native.Mathlib.Omega.{arith}
 use lib.ListN.{length, take, drop}
 use lib.Seq.{length-take-le, take-at, drop-at}
-use Rattle.fields.specs.Placed.{placed, Wrote, kept}
 use Rattle.raw_records.specs.Raw.{recordsOf}
+use Rattle.fields.specs.Placed.{placed, Wrote, kept}
 use Rattle.writer.specs.declared.walk.Written.the-variants.{Count, Refused}
 use Rattle.writer.specs.File.{fileOf}
 use Rattle.writer.specs.Write.{WriteOutcome, writeOutcome, writeRefusal, byRefusal, writeOf, Accepted, accepted}

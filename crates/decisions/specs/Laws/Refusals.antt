@@ -36,7 +36,7 @@ use Rattle.conditions.specs.Conditions.{derivableAt, ticketLives, admission}
 use Rattle.conditions.specs.Promises.{admission-refusals}
 use Rattle.decisions.specs.declared.Verdict.{Verdict}
 use Rattle.decisions.specs.declared.Verdict.the-variants.{Takes, Refused}
-use Rattle.decisions.specs.Effects.{messagesOf, nothing}
+use Rattle.decisions.specs.Effects.{messagesOf}
 use Rattle.decisions.specs.Decision.{need, roomForRun, onRequest, issues, onReply, authenticates, onDelivery, takes, onConfirmation, finishes}
 use Rattle.decisions.specs.Decision.{opensRun, ticks, queries, stepOf, decided, roomed, decision}
 use Rattle.decisions.specs.Refusals.{refusalsOf, fieldRefusals, allOf}

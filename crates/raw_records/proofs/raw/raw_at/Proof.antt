@@ -1,6 +1,6 @@
 -- `raw_records::raw::raw_at` meets its contract. Assumes nothing.
-use Rattle.raw_records.specs.Raw.{raw-term, raw-step, raw-unknown}
 use borrow.Author.Needs.{needs}
+use Rattle.raw_records.specs.Raw.{raw-term, raw-step, raw-unknown}
 use Rattle.raw_records.proofs.raw.raw_at.Statement.{statement}
 use Rattle.raw_records.proofs.raw.raw_at.Tie as tie
 

@@ -1,6 +1,6 @@
 -- `raw_records::refusal::first` meets its contract. Assumes nothing.
-use Rattle.raw_records.specs.Refusals.{first-some}
 use borrow.Author.Needs.{needs}
+use Rattle.raw_records.specs.Refusals.{first-some}
 use Rattle.raw_records.proofs.refusal.first.Statement.{statement}
 use Rattle.raw_records.proofs.refusal.first.Tie as tie
 

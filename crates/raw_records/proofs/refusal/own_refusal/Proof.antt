@@ -1,7 +1,7 @@
 -- `raw_records::refusal::own_refusal` meets its contract. Assumes nothing.
 use mathlib.Core.Path.{sym, ap, _∙_}
-use Rattle.raw_records.specs.Refusals.{ownRefusal}
 use borrow.Author.Needs.{needs}
+use Rattle.raw_records.specs.Refusals.{ownRefusal}
 use Rattle.raw_records.proofs.refusal.own_refusal.Statement.{statement}
 use Rattle.raw_records.proofs.refusal.own_refusal.Tie as tie
 

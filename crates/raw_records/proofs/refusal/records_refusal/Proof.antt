@@ -2,10 +2,10 @@
 use native.Mathlib.Omega.{arith}
 use Prim.Native.Nat.{_≤_, _-_}
 use mathlib.Core.Path.{_≡_, refl, sym, ap, _∙_}
+use borrow.Author.Needs.{needs}
 use Rattle.raw_records.specs.Raw.{recordsOf}
 use Rattle.raw_records.specs.Refusals.{ownRefusal, recordsRefusal}
 use Rattle.raw_records.specs.Passing.{recordsFrom, refused-here, refused-later, refused-cut, refused-none}
-use borrow.Author.Needs.{needs}
 use Rattle.raw_records.proofs.refusal.records_refusal.Statement.{statement}
 use Rattle.raw_records.proofs.refusal.records_refusal.Tie as tie
 

@@ -1,7 +1,7 @@
 -- `raw_records::refusal::step_refusal` meets its contract. Assumes nothing.
 use native.Mathlib.Omega.{arith}
-use Rattle.raw_records.specs.Capped.{step-told}
 use borrow.Author.Needs.{needs}
+use Rattle.raw_records.specs.Capped.{step-told}
 use Rattle.raw_records.proofs.refusal.step_refusal.Statement.{statement}
 use Rattle.raw_records.proofs.refusal.step_refusal.Tie as tie
 

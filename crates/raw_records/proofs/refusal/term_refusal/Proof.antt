@@ -1,8 +1,8 @@
 -- `raw_records::refusal::term_refusal` meets its contract. Assumes nothing.
 use native.Mathlib.Omega.{arith}
 use borrow.Author.Tests.{not-true, not-false}
-use Rattle.raw_records.specs.Refusals.{kind-above, right-unused, term-passes, term-out}
 use borrow.Author.Needs.{needs}
+use Rattle.raw_records.specs.Refusals.{kind-above, right-unused, term-passes, term-out}
 use Rattle.raw_records.proofs.refusal.term_refusal.Statement.{statement}
 use Rattle.raw_records.proofs.refusal.term_refusal.Tie as tie
 

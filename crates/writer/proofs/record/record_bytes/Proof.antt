@@ -1,9 +1,9 @@
 -- `writer::record::record_bytes` meets its contract. Assumes nothing.
 use mathlib.Core.Path.{sym, ap}
 use lib.ListN.{length}
+use borrow.Author.Needs.{needs}
 use Rattle.raw_records.specs.declared.raw.RawRecord.{RawRecord}
 use Rattle.writer.specs.File.{recordBytes}
-use borrow.Author.Needs.{needs}
 use Rattle.writer.proofs.record.record_bytes.Statement.{statement}
 use Rattle.writer.proofs.record.record_bytes.Tie as tie
 

@@ -1,6 +1,6 @@
 -- `writer::record::write_header` meets its contract. Assumes nothing.
-use Rattle.writer.specs.Progress.{copied, header-bytes}
 use borrow.Author.Needs.{needs}
+use Rattle.writer.specs.Progress.{copied, header-bytes}
 use Rattle.writer.proofs.record.write_header.Statement.{statement}
 use Rattle.writer.proofs.record.write_header.Tie as tie
 

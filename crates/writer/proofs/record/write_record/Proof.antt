@@ -1,9 +1,9 @@
 -- `writer::record::write_record` meets its contract. Assumes nothing.
 use mathlib.Core.Path.{sym, ap}
+use borrow.Author.Needs.{needs}
 use Rattle.fields.specs.Placed.{wrote-as}
 use Rattle.writer.specs.File.{recordBytes}
 use Rattle.writer.specs.Progress.{term-room, step-room, unknown-wrote}
-use borrow.Author.Needs.{needs}
 use Rattle.writer.proofs.record.write_record.Statement.{statement}
 use Rattle.writer.proofs.record.write_record.Tie as tie
 

@@ -1,6 +1,6 @@
 -- `writer::record::write_term` meets its contract. Assumes nothing.
-use Rattle.writer.specs.Progress.{copied, term-bytes}
 use borrow.Author.Needs.{needs}
+use Rattle.writer.specs.Progress.{copied, term-bytes}
 use Rattle.writer.proofs.record.write_term.Statement.{statement}
 use Rattle.writer.proofs.record.write_term.Tie as tie
 

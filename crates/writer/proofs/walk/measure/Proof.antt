@@ -4,11 +4,11 @@ use mathlib.Core.List.{List}
 use Prim.Native.Nat.{ℕ, _≤_, _-_, _+_}
 use mathlib.Core.Path.{_≡_, refl, ap}
 use lib.ListN.{length}
-use Rattle.raw_records.specs.Raw.{recordsOf}
-use Rattle.writer.specs.File.{bodyOf}
-use Rattle.raw_records.specs.Passing.{recordsFrom}
-use Rattle.writer.specs.Progress.{record-short, length-next, body-end, measured-above, measured-end}
 use borrow.Author.Needs.{needs}
+use Rattle.raw_records.specs.Raw.{recordsOf}
+use Rattle.raw_records.specs.Passing.{recordsFrom}
+use Rattle.writer.specs.File.{bodyOf}
+use Rattle.writer.specs.Progress.{record-short, length-next, body-end, measured-above, measured-end}
 use Rattle.writer.proofs.walk.measure.Statement.{statement}
 use Rattle.writer.proofs.walk.measure.Tie as tie
 

@@ -1,11 +1,11 @@
 -- `writer::walk/write_file` meets its contract. Assumes nothing.
 use native.Mathlib.Omega.{arith}
-use Rattle.fields.specs.Placed.{joined}
+use borrow.Author.Needs.{needs}
 use Rattle.raw_records.specs.Raw.{recordsOf}
+use Rattle.fields.specs.Placed.{joined}
 use Rattle.writer.specs.File.{headerBytes, fileOf}
 use Rattle.writer.specs.Progress.{header-long, part-room, part-wrote}
 use Rattle.writer.specs.Write.{file-length}
-use borrow.Author.Needs.{needs}
 use Rattle.writer.proofs.walk.write_file.Statement.{statement}
 use Rattle.writer.proofs.walk.write_file.Tie as tie
 

@@ -3,8 +3,8 @@ use native.Mathlib.Omega.{arith}
 use Prim.Native.Nat.{_≤_, _-_}
 use mathlib.Core.Path.{_≡_, refl}
 use lib.ListN.{length}
-use Rattle.writer.specs.Progress.{Progress, part-room, starts, end-within, next-fits, goes-on, finishes}
 use borrow.Author.Needs.{needs}
+use Rattle.writer.specs.Progress.{Progress, part-room, starts, end-within, next-fits, goes-on, finishes}
 use Rattle.writer.proofs.walk.write_records.Statement.{statement}
 use Rattle.writer.proofs.walk.write_records.Tie as tie
 

@@ -1,9 +1,9 @@
 -- `writer::walk::write_walk` meets its contract. Assumes nothing.
 use mathlib.Core.Path.{sym, _∙_}
 use lib.ListN.{length}
+use borrow.Author.Needs.{needs}
 use Rattle.raw_records.specs.Raw.{recordsOf}
 use Rattle.writer.specs.Write.{write-refusal-told, accepted, refused, written}
-use borrow.Author.Needs.{needs}
 use Rattle.writer.proofs.walk.write_walk.Statement.{statement}
 use Rattle.writer.proofs.walk.write_walk.Tie as tie
 
