@@ -2,6 +2,7 @@
 //! way, with trees for messages and sets for what is known. It is read beside
 //! the paper and compared with the proved engine; it shares nothing with it.
 
+pub mod fields;
 pub mod file;
 pub mod intruder;
 pub mod listing;

@@ -1,12 +1,13 @@
 //! The realm (the paper's hall): its tables, its clock, and the records that
-//! come to it. Refusals 4, 5 and 6 are settled here; the steps do the rest.
+//! come to it. Refusals 4, 5 and 6 are settled before the steps do the rest.
 
 use std::collections::HashSet;
 
+use crate::fields::{nonce_or_key, principal, StepFields, TermFields};
 use crate::file::{Header, Record, StepRecord, TermRecord};
 use crate::intruder;
 use crate::refusal::Refusal;
-use crate::terms::{Message, Shape, Terms, MAX_NONCE_OR_KEY};
+use crate::terms::{Message, Shape, Terms};
 
 pub const MAX_RUNS: usize = 64;
 pub const MAX_ENTRIES: usize = 16;
@@ -68,30 +69,6 @@ pub enum Answer {
     Done,
 }
 
-/// Which fields a step uses, by the paper's column "uses".
-#[derive(Clone, Copy, Debug, Default)]
-pub struct Uses {
-    pub run: bool,
-    pub a: bool,
-    pub b: bool,
-    pub message: bool,
-    pub time: bool,
-}
-
-/// `None` for a step that does not exist.
-pub fn uses(step: u8) -> Option<Uses> {
-    let none = Uses::default();
-    Some(match step {
-        1 | 2 => Uses { a: true, b: true, ..none },
-        3 | 10 => Uses { message: true, ..none },
-        4..=6 => Uses { run: true, message: true, ..none },
-        7 => Uses { time: true, ..none },
-        8 => Uses { b: true, ..none },
-        9 => Uses { run: true, ..none },
-        _ => return None,
-    })
-}
-
 impl Realm {
     /// "A new hall has clock 0 and empty tables."
     pub fn new(header: Header) -> Realm {
@@ -136,19 +113,14 @@ impl Realm {
 
     /// The message that a TM record names; refusals 4, 5 and 6.
     fn term_of(&mut self, record: &TermRecord) -> Result<Message, Refusal> {
+        TermFields::from(record).check(&self.header)?;
         let TermRecord { kind, left, right } = *record;
-        if kind > 6 {
-            return Err(Refusal::UnknownOperation);
-        }
-        if matches!(kind, 0 | 2 | 3 | 4) && right != 0 {
-            return Err(Refusal::UnusedField);
-        }
         let shape = match kind {
             0 => Shape::Principal(self.principal(left)?),
             1 => Shape::Time(u32::from(left) * 65_536 + u32::from(right)),
-            2 => Shape::Nonce(nonce_or_key(left)?),
+            2 => Shape::Nonce(nonce_or_key(left.into())?),
             3 => Shape::LongTermKey(self.principal(left)?),
-            4 => Shape::SessionKey(nonce_or_key(left)?),
+            4 => Shape::SessionKey(nonce_or_key(left.into())?),
             5 => Shape::Pair(self.term(left)?, self.term(right)?),
             _ => Shape::Encrypted(self.term(left)?, self.key(right)?),
         };
@@ -156,11 +128,7 @@ impl Realm {
     }
 
     pub fn principal(&self, number: u16) -> Result<u8, Refusal> {
-        if number < u16::from(self.header.principals) {
-            Ok(number as u8)
-        } else {
-            Err(Refusal::BadReference)
-        }
+        principal(&self.header, number.into())
     }
 
     pub fn term(&self, number: u16) -> Result<Message, Refusal> {
@@ -177,33 +145,12 @@ impl Realm {
 
     /// Refusals 4, 5 and 6 of an ST record.
     fn check_step(&self, record: &StepRecord) -> Result<(), Refusal> {
-        let uses = uses(record.step).ok_or(Refusal::UnknownOperation)?;
-        let unused_field_set = !uses.run && record.run != 0
-            || !uses.a && record.a != 0
-            || !uses.b && record.b != 0
-            || !uses.message && record.message != 0
-            || !uses.time && record.time != 0;
-        if unused_field_set {
-            return Err(Refusal::UnusedField);
-        }
-        let n = self.header.principals;
-        let bad_reference = uses.a && record.a >= n
-            || uses.b && record.b >= n
-            || uses.run && usize::from(record.run) >= self.runs.len()
+        let uses = StepFields::from(record).check(&self.header)?;
+        let not_present = uses.run && usize::from(record.run) >= self.runs.len()
             || uses.message && usize::from(record.message) >= self.terms.count();
-        let opens_for_two = matches!(record.step, 1 | 2);
-        let barred = record.a == 0 || record.b == 0 || record.a == record.b;
-        if bad_reference || opens_for_two && barred {
+        if not_present {
             return Err(Refusal::BadReference);
         }
         Ok(())
-    }
-}
-
-pub fn nonce_or_key(number: u16) -> Result<u8, Refusal> {
-    if number <= u16::from(MAX_NONCE_OR_KEY) {
-        Ok(number as u8)
-    } else {
-        Err(Refusal::BadReference)
     }
 }

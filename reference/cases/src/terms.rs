@@ -16,8 +16,9 @@
 
 use std::fmt::Write;
 
+use reference::fields::nonce_or_key;
 use reference::file::{Header, Record, TermRecord};
-use reference::realm::{nonce_or_key, Answer, Realm, MAX_ENTRIES};
+use reference::realm::{Answer, Realm, MAX_ENTRIES};
 use reference::refusal::Refusal;
 use reference::tables::{Counts, Place, Tables, RUN_WORDS, TERM_PLACES, WIRE_WORDS};
 use reference::terms::{Message, Shape};
@@ -105,16 +106,16 @@ fn message(realm: &mut Realm, draft: &[Node; NODES], root: u32) -> Result<Messag
         let shape = match kind {
             0 => Shape::Principal(realm.principal(x16)?),
             1 => Shape::Time(*x),
-            2 => Shape::Nonce(nonce_or_key(x16)?),
+            2 => Shape::Nonce(nonce_or_key(x16.into())?),
             3 => Shape::LongTermKey(realm.principal(x16)?),
-            4 => Shape::SessionKey(nonce_or_key(x16)?),
+            4 => Shape::SessionKey(nonce_or_key(x16.into())?),
             5 => Shape::Pair(earlier(x)?, earlier(y)?),
             6 => {
                 let key = Shape::LongTermKey(realm.principal(y16)?);
                 Shape::Encrypted(earlier(x)?, realm.terms.make(key))
             }
             7 => {
-                let key = Shape::SessionKey(nonce_or_key(y16)?);
+                let key = Shape::SessionKey(nonce_or_key(y16.into())?);
                 Shape::Encrypted(earlier(x)?, realm.terms.make(key))
             }
             _ => {
