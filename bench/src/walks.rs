@@ -3,11 +3,12 @@
 //! are twice the work.
 
 use generator::random::Random;
-use generator::walk::{record_bytes, Walk};
+use generator::walk::Walk;
 use generator::{damage, scenes};
 use reference::file::{Header, Record, StepRecord, TermRecord, MAX_FILE_BYTES};
 use reference::realm::MAX_RUNS;
 use reference::terms::MAX_TERMS;
+use reference::writing::record_bytes;
 
 use crate::deliveries;
 use crate::exchange::{accepted, opens, term, tick, walk, Exchange, STEP};

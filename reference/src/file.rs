@@ -111,6 +111,17 @@ pub fn read_record(bytes: &[u8]) -> Option<Result<(Record, &[u8]), Refusal>> {
     Some(Ok((record, rest)))
 }
 
+/// The records after the header as far as they can be read, and whether all can.
+pub fn read_records(mut bytes: &[u8]) -> (Vec<Record>, bool) {
+    let mut records = Vec::new();
+    while let Some(read) = read_record(bytes) {
+        let Ok((record, rest)) = read else { return (records, false) };
+        records.push(record);
+        bytes = rest;
+    }
+    (records, true)
+}
+
 fn term(bytes: &[u8]) -> Record {
     Record::Term(TermRecord {
         kind: bytes[2],

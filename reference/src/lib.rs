@@ -11,5 +11,6 @@ pub mod refusal;
 pub mod steps;
 pub mod tables;
 pub mod terms;
+pub mod writing;
 
 pub use listing::listing;

@@ -39,6 +39,9 @@ pub enum Refusal {
     CacheFull = 19,
     /// The terms to be added do not all fit.
     TermsFull = 20,
+    /// The file does not fit into the buffer at the offset. Only a caller of the
+    /// writer meets it.
+    NoRoomInBuffer = 21,
 }
 
 impl Refusal {

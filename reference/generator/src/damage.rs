@@ -2,10 +2,10 @@
 //! random bytes.
 
 use reference::file::{Header, Record, StepRecord, TermRecord, HEADER_BYTES, MAX_FILE_BYTES};
+use reference::writing::{header_bytes, record_bytes};
 
 use crate::random::Random;
 use crate::scenes::any_header;
-use crate::walk::{header_bytes, record_bytes};
 
 /// Up to four damages: a byte changed, taken out or put in, the end cut off, a
 /// stretch doubled, a mark put in the middle.

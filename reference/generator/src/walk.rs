@@ -4,6 +4,7 @@ use reference::file::{Header, Record, StepRecord, TermRecord};
 use reference::realm::{Answer, Realm};
 use reference::refusal::Refusal;
 use reference::terms::{Message, Shape};
+use reference::writing::{header_bytes, record_bytes};
 
 use crate::random::Random;
 
@@ -13,32 +14,6 @@ pub struct Walk {
     pub random: Random,
     /// The ST records so far, accepted and refused, to be offered again.
     pub past: Vec<StepRecord>,
-}
-
-pub fn header_bytes(header: &Header) -> Vec<u8> {
-    let mut bytes = b"HD".to_vec();
-    bytes.push(header.principals);
-    bytes.extend(header.flags.to_be_bytes());
-    bytes.extend(header.ticket_life.to_be_bytes());
-    bytes.extend(header.authenticator_life.to_be_bytes());
-    bytes
-}
-
-pub fn record_bytes(record: &Record) -> Vec<u8> {
-    let mut bytes = record.mark().as_bytes().to_vec();
-    match record {
-        Record::Term(term) => {
-            bytes.push(term.kind);
-            bytes.extend(term.left.to_be_bytes());
-            bytes.extend(term.right.to_be_bytes());
-        }
-        Record::Step(step) => {
-            bytes.extend([step.step, step.run, step.a, step.b]);
-            bytes.extend(step.message.to_be_bytes());
-            bytes.extend(step.time.to_be_bytes());
-        }
-    }
-    bytes
 }
 
 impl Walk {

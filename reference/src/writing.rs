@@ -1,0 +1,133 @@
+//! The writer: a header and a list of records into the bytes of a walk file,
+//! at an offset inside the caller's buffer.
+//!
+//! A record is handed over as seven words: its mark as a number, then its
+//! fields in the order of the file. The three words behind the fields of a TM
+//! record are not read.
+
+use crate::fields::{StepFields, TermFields};
+use crate::file::{Header, Record, StepRecord, TermRecord};
+use crate::file::{HEADER_BYTES, MAX_FILE_BYTES, STEP_BYTES, TERM_BYTES};
+use crate::refusal::Refusal;
+
+/// The words of a record.
+pub const RECORD_WORDS: usize = 7;
+/// The marks TM and ST, high byte first.
+pub const TERM_MARK: u32 = 0x544d;
+pub const STEP_MARK: u32 = 0x5354;
+
+/// Writes the file and gives the number of its bytes. A refusal leaves every
+/// byte of the buffer as it was.
+pub fn write(
+    header: &Header,
+    words: &[u32],
+    buffer: &mut [u8],
+    at: usize,
+) -> Result<usize, Refusal> {
+    let file = file(header, words)?;
+    let rest = buffer.get_mut(at..).ok_or(Refusal::NoRoomInBuffer)?;
+    let place = rest.get_mut(..file.len()).ok_or(Refusal::NoRoomInBuffer)?;
+    place.copy_from_slice(&file);
+    Ok(file.len())
+}
+
+/// The bytes of the file; refusals 1 and 2, then 3 to 6 record by record.
+pub fn file(header: &Header, words: &[u32]) -> Result<Vec<u8>, Refusal> {
+    if file_bytes(words) > MAX_FILE_BYTES {
+        return Err(Refusal::NoHeader);
+    }
+    let mut file = header_bytes(&header.check()?);
+    for words in words.chunks(RECORD_WORDS) {
+        file.extend(record_bytes(&record(header, words)?));
+    }
+    Ok(file)
+}
+
+/// How long the file would be. A record with an unknown mark has no length, nor
+/// has a last one that is cut short.
+pub fn file_bytes(words: &[u32]) -> usize {
+    let bytes = |words: &[u32]| match words[0] {
+        TERM_MARK => TERM_BYTES,
+        STEP_MARK => STEP_BYTES,
+        _ => 0,
+    };
+    HEADER_BYTES + words.chunks_exact(RECORD_WORDS).map(bytes).sum::<usize>()
+}
+
+/// The record that the words tell of; refusals 3 to 6.
+fn record(header: &Header, words: &[u32]) -> Result<Record, Refusal> {
+    match *words {
+        [TERM_MARK, kind, left, right, _, _, _] => {
+            let fields = TermFields { kind, left, right };
+            fields.check(header)?;
+            Ok(Record::Term(term(&fields)))
+        }
+        [STEP_MARK, step, run, a, b, message, time] => {
+            let fields = StepFields { step, run, a, b, message, time };
+            fields.check(header)?;
+            Ok(Record::Step(self::step(&fields)))
+        }
+        _ => Err(Refusal::BrokenRecord),
+    }
+}
+
+/// Fields that were checked fit their places in the file.
+fn term(fields: &TermFields) -> TermRecord {
+    let (left, right) = (fields.left as u16, fields.right as u16);
+    TermRecord { kind: fields.kind as u8, left, right }
+}
+
+fn step(fields: &StepFields) -> StepRecord {
+    StepRecord {
+        step: fields.step as u8,
+        run: fields.run as u8,
+        a: fields.a as u8,
+        b: fields.b as u8,
+        message: fields.message as u16,
+        time: fields.time,
+    }
+}
+
+pub fn header_bytes(header: &Header) -> Vec<u8> {
+    let mut bytes = b"HD".to_vec();
+    bytes.push(header.principals);
+    bytes.extend(header.flags.to_be_bytes());
+    bytes.extend(header.ticket_life.to_be_bytes());
+    bytes.extend(header.authenticator_life.to_be_bytes());
+    bytes
+}
+
+pub fn record_bytes(record: &Record) -> Vec<u8> {
+    let mut bytes = record.mark().as_bytes().to_vec();
+    match record {
+        Record::Term(term) => {
+            bytes.push(term.kind);
+            bytes.extend(term.left.to_be_bytes());
+            bytes.extend(term.right.to_be_bytes());
+        }
+        Record::Step(step) => {
+            bytes.extend([step.step, step.run, step.a, step.b]);
+            bytes.extend(step.message.to_be_bytes());
+            bytes.extend(step.time.to_be_bytes());
+        }
+    }
+    bytes
+}
+
+/// The words of records that were read.
+pub fn words(records: &[Record]) -> Vec<u32> {
+    records.iter().flat_map(record_words).collect()
+}
+
+fn record_words(record: &Record) -> [u32; RECORD_WORDS] {
+    match record {
+        Record::Term(record) => {
+            let TermFields { kind, left, right } = record.into();
+            [TERM_MARK, kind, left, right, 0, 0, 0]
+        }
+        Record::Step(record) => {
+            let StepFields { step, run, a, b, message, time } = record.into();
+            [STEP_MARK, step, run, a, b, message, time]
+        }
+    }
+}
