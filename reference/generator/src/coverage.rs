@@ -2,7 +2,7 @@
 
 use std::collections::BTreeMap;
 
-use reference::file::{read_header, read_record, MAX_FILE_BYTES};
+use reference::file::{read_header, read_record, Header, MAX_FILE_BYTES};
 use reference::refusal::Refusal;
 
 use crate::cells::main_cells;
@@ -13,14 +13,20 @@ use crate::observer::Observer;
 /// that one met against expectation shows.
 #[derive(Default)]
 pub struct Tally {
-    pub files: u64,
+    /// Files, or writes.
+    pub inputs: u64,
     pub counts: BTreeMap<String, u64>,
 }
 
 impl Tally {
     pub fn add(&mut self, file: &[u8]) {
-        self.files += 1;
-        for cell in cells_met(file) {
+        self.meet(cells_met(file));
+    }
+
+    /// One more input that meets these cells.
+    pub fn meet(&mut self, cells: impl IntoIterator<Item = String>) {
+        self.inputs += 1;
+        for cell in cells {
             *self.counts.entry(cell).or_insert(0) += 1;
         }
     }
@@ -29,17 +35,18 @@ impl Tally {
         self.counts.get(cell).copied().unwrap_or(0)
     }
 
+    /// A line for each of the cells, and a complaint for each that was not met.
+    pub fn table(&self, cells: &[String]) -> (String, Vec<String>) {
+        let line = |cell: &String| format!("{cell}: {}\n", self.count(cell));
+        let unmet = cells.iter().filter(|cell| self.count(cell) == 0);
+        let complaints = unmet.map(|cell| format!("never met: {cell}")).collect();
+        (cells.iter().map(line).collect(), complaints)
+    }
+
     /// The table's lines, and the complaints about it.
     pub fn report(&self) -> (String, Vec<String>) {
-        let (main, edges) = (main_cells(), edge_cells());
-        let mut lines = format!("{} files\n", self.files);
-        let mut complaints = Vec::new();
-        for cell in main.iter().chain(&edges) {
-            lines += &format!("{cell}: {}\n", self.count(cell));
-            if self.count(cell) == 0 {
-                complaints.push(format!("never met: {cell}"));
-            }
-        }
+        let main = main_cells();
+        let (lines, mut complaints) = self.table(&[main.clone(), edge_cells()].concat());
         // A cell of a step or kind and an answer that the paper rules out.
         for cell in self.counts.keys() {
             if cell.matches(" / ").count() == 1
@@ -49,7 +56,7 @@ impl Tally {
                 complaints.push(format!("met, though document 01 rules it out: {cell}"));
             }
         }
-        (lines, complaints)
+        (format!("{} files\n{lines}", self.inputs), complaints)
     }
 }
 
@@ -101,20 +108,41 @@ fn header_cells(file: &[u8], refusal: Refusal) -> Vec<String> {
         met(!over && file.len() >= 13 && !file.starts_with(b"HD"), "another mark");
         return cells;
     }
-    // Each condition alone.
-    let (n, flags) = (u32::from(file[2]), u32::from(file[3]) << 8 | u32::from(file[4]));
-    let n_in_range = (3..=16).contains(&n);
-    let above = if n_in_range { flags >> n } else { 0 };
-    let conditions =
-        [!n_in_range, flags & 1 == 1, above != 0, file[5..9] == [0; 4], file[9..13] == [0; 4]];
-    if conditions.iter().filter(|is| **is).count() == 1 {
-        met(n == 2, "n is 2");
-        met(n == 17, "n is 17");
-        met(conditions[1], "flag on 0");
-        met(above == 1, "flag at n");
-        met(above > 1 && above & 1 == 0, "flag above n");
-        met(conditions[3], "Ls is 0");
-        met(conditions[4], "La is 0");
+    let header = Header {
+        principals: file[2],
+        flags: u16::from_be_bytes([file[3], file[4]]),
+        ticket_life: u32::from(file[5..9] != [0; 4]),
+        authenticator_life: u32::from(file[9..13] != [0; 4]),
+    };
+    if let Some(how) = header_way(&header) {
+        met(true, how);
     }
     cells
+}
+
+/// In which way a header is bad, if one condition of refusal 2 holds alone.
+pub fn header_way(header: &Header) -> Option<&'static str> {
+    let (n, flags) = (header.principals, u32::from(header.flags));
+    let n_in_range = (3..=16).contains(&n);
+    let above = if n_in_range { flags >> n } else { 0 };
+    let conditions = [
+        !n_in_range,
+        flags & 1 == 1,
+        above != 0,
+        header.ticket_life == 0,
+        header.authenticator_life == 0,
+    ];
+    if conditions.iter().filter(|is| **is).count() != 1 {
+        return None;
+    }
+    let hows = [
+        (n == 2, "n is 2"),
+        (n == 17, "n is 17"),
+        (conditions[1], "flag on 0"),
+        (above == 1, "flag at n"),
+        (above > 1 && above & 1 == 0, "flag above n"),
+        (conditions[3], "Ls is 0"),
+        (conditions[4], "La is 0"),
+    ];
+    hows.iter().find(|(is, _)| *is).map(|(_, how)| *how)
 }

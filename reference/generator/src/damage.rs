@@ -69,8 +69,8 @@ pub fn random_records(random: &mut Random) -> Vec<u8> {
     bytes
 }
 
-/// A header with one value or two at or past the ends of its range, or not whole.
-pub fn bad_header(random: &mut Random) -> Vec<u8> {
+/// A header with one value or two at or past the ends of its range.
+pub fn spoilt_header(random: &mut Random) -> Header {
     let mut header: Header = any_header(random);
     for _ in 0..random.pick(&[1, 1, 1, 2]) {
         let at_n = 1u32.checked_shl(header.principals.into()).unwrap_or(0);
@@ -83,7 +83,12 @@ pub fn bad_header(random: &mut Random) -> Vec<u8> {
             _ => header.authenticator_life = 0,
         }
     }
-    let mut bytes = header_bytes(&header);
+    header
+}
+
+/// A file with a spoilt header, or one that is not whole.
+pub fn bad_header(random: &mut Random) -> Vec<u8> {
+    let mut bytes = header_bytes(&spoilt_header(random));
     match random.below(6) {
         0 => bytes.truncate(random.below(HEADER_BYTES)),
         1 => bytes[..2].copy_from_slice(&random.pick(&[*b"HW", *b"hd", *b"DH", *b"ST", *b"TM"])),

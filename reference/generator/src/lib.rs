@@ -18,8 +18,10 @@ pub mod random;
 pub mod scenes;
 pub mod vectors;
 pub mod walk;
+pub mod writes;
 
 use random::Random;
+use writes::Write;
 
 /// The walk file with this number. It depends on the seed and the number alone.
 pub fn walk_file(seed: u64, number: u64) -> Vec<u8> {
@@ -29,4 +31,9 @@ pub fn walk_file(seed: u64, number: u64) -> Vec<u8> {
 /// The same of the damaged and random files alone.
 pub fn damaged_file(seed: u64, number: u64) -> Vec<u8> {
     scenes::any_damaged_file(&mut Random::new(seed, number))
+}
+
+/// The write with this number.
+pub fn write(seed: u64, number: u64) -> Write {
+    writes::any_write(&mut Random::new(seed, number))
 }

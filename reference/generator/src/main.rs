@@ -5,14 +5,15 @@ use std::path::PathBuf;
 use std::process::ExitCode;
 
 use generator::coverage::Tally;
-use generator::{damaged_file, vectors, walk_file};
+use generator::{damaged_file, vectors, walk_file, writes};
 
 const USAGE: &str = "usage:
   generate --seed S --count N --out DIR [--damaged]  write N walk files
   generate --seed S --file I [--damaged]             write walk file I to standard output
-  generate --coverage --seed S --count N             print the coverage table
+  generate --seed S --write I                        print write I in words
+  generate --coverage --seed S --count N [--writes]  print the coverage table
   generate --vectors DIR --count N [--seed S]        write N small walks with listings
---damaged makes the damaged and random ones alone.";
+--damaged makes the damaged and random ones alone; --writes counts writes, not files.";
 
 #[derive(Default)]
 struct Options {
@@ -21,8 +22,10 @@ struct Options {
     out: Option<PathBuf>,
     vectors: Option<PathBuf>,
     file: Option<u64>,
+    write: Option<u64>,
     coverage: bool,
     damaged: bool,
+    writes: bool,
 }
 
 fn main() -> ExitCode {
@@ -45,24 +48,35 @@ fn options(mut arguments: impl Iterator<Item = String>) -> Option<Options> {
         match argument.as_str() {
             "--coverage" => options.coverage = true,
             "--damaged" => options.damaged = true,
+            "--writes" => options.writes = true,
             "--seed" => options.seed = arguments.next()?.parse().ok()?,
             "--count" => options.count = Some(arguments.next()?.parse().ok()?),
             "--file" => options.file = Some(arguments.next()?.parse().ok()?),
+            "--write" => options.write = Some(arguments.next()?.parse().ok()?),
             "--out" => options.out = Some(arguments.next()?.into()),
             "--vectors" => options.vectors = Some(arguments.next()?.into()),
             _ => return None,
         }
     }
-    let modes = [
-        options.coverage,
-        options.out.is_some(),
-        options.vectors.is_some(),
-        options.file.is_some(),
-    ];
-    let one_mode = modes.iter().filter(|is| **is).count() == 1;
-    let writes_files = options.out.is_some() || options.file.is_some();
-    let counted = options.file.is_some() || options.count.is_some();
-    (one_mode && counted && (writes_files || !options.damaged)).then_some(options)
+    options.fit().then_some(options)
+}
+
+impl Options {
+    /// One mode, with what it needs and no more.
+    fn fit(&self) -> bool {
+        let one = self.file.is_some() || self.write.is_some();
+        let modes = [
+            self.coverage,
+            self.out.is_some(),
+            self.vectors.is_some(),
+            self.file.is_some(),
+            self.write.is_some(),
+        ];
+        let one_mode = modes.iter().filter(|is| **is).count() == 1;
+        let writes_files = self.out.is_some() || self.file.is_some();
+        let counted = one || self.count.is_some();
+        one_mode && counted && (writes_files || !self.damaged) && (self.coverage || !self.writes)
+    }
 }
 
 fn run(options: &Options) -> Result<(), String> {
@@ -72,6 +86,10 @@ fn run(options: &Options) -> Result<(), String> {
         use std::io::Write;
         let written = std::io::stdout().write_all(&made(options.seed, number));
         return written.map_err(|error| error.to_string());
+    }
+    if let Some(number) = options.write {
+        print!("{}", generator::write(options.seed, number));
+        return Ok(());
     }
     if let Some(out) = &options.out {
         fs::create_dir_all(out).map_err(|error| format!("{}: {error}", out.display()))?;
@@ -83,7 +101,7 @@ fn run(options: &Options) -> Result<(), String> {
     if let Some(out) = &options.vectors {
         return write_vectors(options.seed, count as usize, out);
     }
-    coverage(options.seed, count)
+    coverage(options, count)
 }
 
 fn write(path: PathBuf, bytes: &[u8]) -> Result<(), String> {
@@ -106,12 +124,17 @@ fn write_vectors(seed: u64, count: usize, out: &PathBuf) -> Result<(), String> {
     Ok(())
 }
 
-fn coverage(seed: u64, count: u64) -> Result<(), String> {
+fn coverage(options: &Options, count: u64) -> Result<(), String> {
     let mut tally = Tally::default();
     for number in 0..count {
-        tally.add(&walk_file(seed, number));
+        if options.writes {
+            tally.meet(writes::coverage::cells_met(&generator::write(options.seed, number)));
+        } else {
+            tally.add(&walk_file(options.seed, number));
+        }
     }
-    let (table, complaints) = tally.report();
+    let (table, complaints) =
+        if options.writes { writes::coverage::report(&tally) } else { tally.report() };
     print!("{table}");
     if complaints.is_empty() {
         return Ok(());
