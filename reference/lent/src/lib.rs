@@ -3,12 +3,14 @@
 //!
 //! Nothing checks the declarations against the engine's source: they follow
 //! `crates/exported/src/lib.rt`, `crates/realm/src/header.rt` and
-//! `crates/replay/src/entry.rt`. Neither function requires anything of what it
-//! is lent.
+//! `crates/replay/src/entry.rt`. No function requires anything of what it is
+//! lent.
 
 mod listing;
+mod writing;
 
 pub use listing::{list, listing, LISTING_BYTES};
+pub use writing::write;
 
 use reference::file::{Header, Record};
 
