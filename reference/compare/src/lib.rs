@@ -1,4 +1,6 @@
-//! Runs another engine and the reference over the same files.
+//! Runs another engine and the reference over the same files, or the same writes.
+
+pub mod writes;
 
 use std::fmt;
 use std::io::Write;
@@ -88,24 +90,28 @@ pub fn first_difference(reference: &[u8], engine: &[u8]) -> Option<Difference> {
     Some(Difference { line: line + 1, reference, engine })
 }
 
-/// What a run over many files found.
+/// What a run over many files or writes found.
 #[derive(Default)]
 pub struct Outcome {
-    pub files: u64,
+    pub compared: u64,
     pub different: u64,
-    /// The first file that differs, and how.
+    /// The first that differs, and how.
     pub first: Option<(String, String)>,
 }
 
 impl Outcome {
     /// Compares one more file.
     pub fn compare(&mut self, engine: &Engine, name: &str, file: &[u8]) {
-        self.files += 1;
         let expected = reference::listing(file).into_bytes();
         let difference = match engine.listing(file) {
             Ok(listing) => first_difference(&expected, &listing).map(|found| found.to_string()),
             Err(error) => Some(error),
         };
+        self.add(name, difference);
+    }
+
+    fn add(&mut self, name: &str, difference: Option<String>) {
+        self.compared += 1;
         if let Some(difference) = difference {
             self.different += 1;
             self.first.get_or_insert((name.to_string(), difference));

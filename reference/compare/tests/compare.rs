@@ -25,7 +25,7 @@ fn over(engine: Engine, files: u64) -> Outcome {
 #[test]
 fn equal_engines_do_not_differ() {
     let outcome = over(Engine::Function(same), 300);
-    assert_eq!((outcome.files, outcome.different, outcome.first), (300, 0, None));
+    assert_eq!((outcome.compared, outcome.different, outcome.first), (300, 0, None));
 }
 
 #[test]
@@ -63,7 +63,7 @@ fn a_program_is_fed_and_read() {
     let engine = Engine::Program(PathBuf::from("cat"));
     assert_eq!(engine.listing(&[7; 200_000]).unwrap(), vec![7; 200_000]);
     let outcome = over(engine, 3);
-    assert_eq!((outcome.files, outcome.different), (3, 3));
+    assert_eq!((outcome.compared, outcome.different), (3, 3));
 }
 
 #[test]
@@ -120,7 +120,7 @@ fn a_build_without_the_engine_says_how_to_get_it() {
 #[cfg(feature = "engine")]
 fn the_engine_runs_in_this_process() {
     let outcome = over(Engine::linked().unwrap(), 300);
-    assert_eq!((outcome.files, outcome.different, outcome.first), (300, 0, None));
+    assert_eq!((outcome.compared, outcome.different, outcome.first), (300, 0, None));
     for kind in [&["--damaged"][..], &[]] {
         let run = [&["--seed", "3", "--count", "500"], kind].concat();
         assert_eq!(command(&run), (Some(0), "500 files compared, 0 differ\n".to_string()));
