@@ -38,7 +38,7 @@ pub fn file(header: &Header, words: &[u32]) -> Result<Vec<u8>, Refusal> {
     }
     let mut file = header_bytes(&header.check()?);
     for words in words.chunks(RECORD_WORDS) {
-        file.extend(record_bytes(&record(header, words)?));
+        put(&mut file, &record(header, words)?);
     }
     Ok(file)
 }
@@ -98,7 +98,14 @@ pub fn header_bytes(header: &Header) -> Vec<u8> {
 }
 
 pub fn record_bytes(record: &Record) -> Vec<u8> {
-    let mut bytes = record.mark().as_bytes().to_vec();
+    let mut bytes = Vec::new();
+    put(&mut bytes, record);
+    bytes
+}
+
+/// Puts a record behind the bytes.
+fn put(bytes: &mut Vec<u8>, record: &Record) {
+    bytes.extend(record.mark().as_bytes());
     match record {
         Record::Term(term) => {
             bytes.push(term.kind);
@@ -111,7 +118,6 @@ pub fn record_bytes(record: &Record) -> Vec<u8> {
             bytes.extend(step.time.to_be_bytes());
         }
     }
-    bytes
 }
 
 /// The words of records that were read.
