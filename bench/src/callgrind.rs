@@ -8,7 +8,7 @@ use std::path::{Path, PathBuf};
 use std::process::{self, Command, Stdio};
 
 use crate::calls::Which;
-use crate::sides::{buffer, Side};
+use crate::sides::{buffer, Input, Side, Work};
 
 pub fn is_there() -> bool {
     let run = Command::new("valgrind").arg("--version").stdout(Stdio::null()).status();
@@ -16,18 +16,19 @@ pub fn is_there() -> bool {
 }
 
 /// The instructions of a pass of this side over the files.
-pub fn of_pass(side: Side, files: &[Vec<u8>]) -> io::Result<u64> {
-    let input = scratch("files");
-    fs::write(&input, packed(files))?;
-    let counted = counted(side.symbol(), &["pass", side.name(), &input.to_string_lossy()]);
-    fs::remove_file(&input)?;
+pub fn of_pass(side: Side, input: &Input) -> io::Result<u64> {
+    let (files, work) = (scratch("files"), input.work);
+    fs::write(&files, packed(&input.files))?;
+    let words = ["pass", work.name(), side.name(), &files.to_string_lossy()];
+    let counted = counted(side.symbol(work), &words);
+    fs::remove_file(&files)?;
     counted
 }
 
 /// What the child does: one pass over the files.
-pub fn pass(side: Side, input: &Path) -> io::Result<()> {
-    let files = unpacked(&fs::read(input)?);
-    side.pass(&files, &mut buffer());
+pub fn pass(work: Work, side: Side, files: &Path) -> io::Result<()> {
+    let input = Input::new(work, unpacked(&fs::read(files)?));
+    side.pass(&input, &mut buffer());
     Ok(())
 }
 

@@ -1,5 +1,6 @@
 //! Timings of the proved engine beside the reference, over walk files made for
-//! the purpose: both list the same bytes in the same process.
+//! the purpose: both list the same bytes in the same process, and write the same
+//! walks out.
 
 pub mod callgrind;
 pub mod calls;
@@ -10,3 +11,4 @@ pub mod sides;
 pub mod table;
 pub mod timing;
 pub mod walks;
+pub mod written;

@@ -1,6 +1,6 @@
 //! Prints the tables of docs/PERFORMANCE.md.
 //!
-//! `--times` leaves the instructions out. `pass SIDE FILE` is what callgrind runs.
+//! `--times` leaves the instructions out. `pass WORK SIDE FILE` is what callgrind runs.
 
 use std::hint::black_box;
 use std::path::Path;
@@ -9,7 +9,7 @@ use std::{env, io};
 
 use bench::calls::{make, Which, CALLS, EACH};
 use bench::rows::{Row, ROWS};
-use bench::sides::{buffer, compare, Side};
+use bench::sides::{buffer, compare, Input, Side, Work};
 use bench::table::{figure, head, line, microseconds, milliseconds};
 use bench::timing::least_of;
 use bench::{callgrind, walks};
@@ -18,9 +18,10 @@ fn main() -> io::Result<()> {
     let words: Vec<String> = env::args().skip(1).collect();
     let words: Vec<&str> = words.iter().map(String::as_str).collect();
     match words[..] {
-        ["pass", side, input] => {
+        ["pass", work, side, files] => {
+            let work = Work::named(work).ok_or(io::Error::other("list or write"))?;
             let side = Side::named(side).ok_or(io::Error::other("engine or reference"))?;
-            callgrind::pass(side, Path::new(input))
+            callgrind::pass(work, side, Path::new(files))
         }
         ["call", number, terms, which] => {
             let which =
@@ -42,7 +43,7 @@ fn number_of(word: &str) -> io::Result<usize> {
 }
 
 fn tables(count: bool) -> io::Result<()> {
-    println!("Both sides list the same files:\n");
+    println!("Both sides list the same files, or write the same walks:\n");
     compared(count)?;
     println!("\nThe engine with more records, or more files:\n");
     growth(count)?;
@@ -63,20 +64,20 @@ fn compared(count: bool) -> io::Result<()> {
     }
     head(&names);
     for row in &ROWS {
-        let files = (row.files)(8);
-        let lines = compare(&files).unwrap_or_else(|number| {
-            eprintln!("{}: the listings of file {number} differ", row.name);
+        let input = row.input(8);
+        let lines = compare(&input).unwrap_or_else(|number| {
+            eprintln!("{}: the sides differ in file {number}", row.name);
             exit(1)
         });
-        let mut buffer = buffer();
-        let times = least_of([&mut || Side::Engine.pass(&files, &mut buffer), &mut || {
-            Side::Reference.pass(&files, &mut [])
+        let (mut ours, mut theirs) = (buffer(), buffer());
+        let times = least_of([&mut || Side::Engine.pass(&input, &mut ours), &mut || {
+            Side::Reference.pass(&input, &mut theirs)
         }]);
         let mut cells = vec![row.name.to_string(), lines.to_string()];
         cells.extend(beside(times.map(milliseconds)));
         if count {
-            let engine = instructions(Side::Engine, &files)?;
-            cells.extend(beside([engine, instructions(Side::Reference, &files)?]));
+            let engine = instructions(Side::Engine, &input)?;
+            cells.extend(beside([engine, instructions(Side::Reference, &input)?]));
         }
         line(&cells);
     }
@@ -98,10 +99,10 @@ fn growth(count: bool) -> io::Result<()> {
         let mut cells = vec![row.name.to_string()];
         cells.extend(grown(row_times(row)));
         if count {
-            let sizes = [1, 2, 4, 8].map(row.files);
+            let sizes = [1, 2, 4, 8].map(|eighths| row.input(eighths));
             let mut counts = [0.0; 4];
-            for (files, count) in sizes.iter().zip(&mut counts) {
-                *count = instructions(Side::Engine, files)?;
+            for (input, count) in sizes.iter().zip(&mut counts) {
+                *count = instructions(Side::Engine, input)?;
             }
             cells.extend(grown(counts));
         }
@@ -111,7 +112,7 @@ fn growth(count: bool) -> io::Result<()> {
 }
 
 fn row_times(row: &Row) -> [f64; 4] {
-    let [one, two, four, eight] = [1, 2, 4, 8].map(row.files);
+    let [one, two, four, eight] = [1, 2, 4, 8].map(|eighths| row.input(eighths));
     let [mut b1, mut b2, mut b4, mut b8] = [1, 2, 4, 8].map(|_| buffer());
     let times = least_of([
         &mut || Side::Engine.pass(&one, &mut b1),
@@ -199,17 +200,18 @@ fn grows(name: String, figures: [f64; 4]) {
 fn buffers() {
     head(&["File", "Engine", "Engine, its buffer cleared before", "Reference"]);
     for (name, file) in [("empty", vec![]), ("a header alone", walks::header_alone())] {
-        let files = vec![file; TIMES as usize];
+        let one = Input::new(Work::List, vec![file.clone()]);
+        let all = Input::new(Work::List, vec![file; TIMES as usize]);
         let (mut kept, mut cleared) = (buffer(), buffer());
         let times = least_of([
-            &mut || Side::Engine.pass(&files, &mut kept),
+            &mut || Side::Engine.pass(&all, &mut kept),
             &mut || {
-                for file in &files {
+                for _ in 0..TIMES {
                     cleared.fill(0);
-                    Side::Engine.pass(std::slice::from_ref(file), black_box(&mut cleared));
+                    Side::Engine.pass(&one, black_box(&mut cleared));
                 }
             },
-            &mut || Side::Reference.pass(&files, &mut []),
+            &mut || Side::Reference.pass(&all, &mut []),
         ]);
         let mut cells = vec![name.to_string()];
         cells.extend(times.map(|time| figure(microseconds(time / TIMES))));
@@ -218,6 +220,6 @@ fn buffers() {
 }
 
 /// Instructions of a pass, in millions.
-fn instructions(side: Side, files: &[Vec<u8>]) -> io::Result<f64> {
-    Ok(callgrind::of_pass(side, files)? as f64 / 1e6)
+fn instructions(side: Side, input: &Input) -> io::Result<f64> {
+    Ok(callgrind::of_pass(side, input)? as f64 / 1e6)
 }

@@ -1,23 +1,39 @@
-//! The rows of the table: names and files.
+//! The rows of the table: names, files, and what is done with them.
 
+use crate::sides::{Input, Work};
 use crate::walks;
 
 pub struct Row {
     pub name: &'static str,
+    pub work: Work,
     /// The files with so many eighths of the records that repeat, or with so
     /// many eighths of the files.
     pub files: fn(usize) -> Vec<Vec<u8>>,
 }
 
-pub const ROWS: [Row; 7] = [
-    Row { name: "a long honest walk", files: |eighths| vec![walks::honest(eighths)] },
-    Row { name: "terms only", files: |eighths| vec![walks::terms_only(eighths)] },
-    Row { name: "the first of 512 terms again", files: |eighths| vec![walks::first_term(eighths)] },
-    Row {
-        name: "deliveries on full tables, keys in the worst order",
-        files: |eighths| vec![walks::deliveries(eighths)],
-    },
-    Row { name: "deep shared terms", files: |eighths| vec![walks::deep(eighths)] },
-    Row { name: "8,000 damaged files", files: walks::damaged },
-    Row { name: "10,000 small files", files: walks::small },
+impl Row {
+    pub fn input(&self, eighths: usize) -> Input {
+        Input::new(self.work, (self.files)(eighths))
+    }
+}
+
+const fn listed(name: &'static str, files: fn(usize) -> Vec<Vec<u8>>) -> Row {
+    Row { name, work: Work::List, files }
+}
+
+const fn written(name: &'static str, files: fn(usize) -> Vec<Vec<u8>>) -> Row {
+    Row { name, work: Work::Write, files }
+}
+
+pub const ROWS: [Row; 8] = [
+    listed("a long honest walk", |eighths| vec![walks::honest(eighths)]),
+    listed("terms only", |eighths| vec![walks::terms_only(eighths)]),
+    listed("the first of 512 terms again", |eighths| vec![walks::first_term(eighths)]),
+    listed("deliveries on full tables, keys in the worst order", |eighths| {
+        vec![walks::deliveries(eighths)]
+    }),
+    listed("deep shared terms", |eighths| vec![walks::deep(eighths)]),
+    listed("8,000 damaged files", walks::damaged),
+    listed("10,000 small files", walks::small),
+    written("the five long walks written out", walks::long),
 ];

@@ -175,6 +175,12 @@ pub fn deep(eighths: usize) -> Vec<u8> {
     extended(walk, eighths, cycle(asked.map(asks).to_vec()))
 }
 
+pub const LONG: [fn(usize) -> Vec<u8>; 5] = [honest, terms_only, first_term, deliveries, deep];
+
+pub fn long(eighths: usize) -> Vec<Vec<u8>> {
+    LONG.map(|make| make(eighths)).into()
+}
+
 /// Short walks with bytes damaged, bad headers, random records, random bytes.
 pub fn damaged(eighths: usize) -> Vec<Vec<u8>> {
     let file = |number: u64| {

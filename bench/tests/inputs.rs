@@ -7,11 +7,13 @@ use bench::calls::sweeps;
 use bench::deliveries;
 use bench::rows::ROWS;
 use bench::sides::compare;
-use bench::walks;
+use bench::walks::{self, LONG};
+use bench::written::Walk;
 use reference::file::{read_header, read_record, MAX_FILE_BYTES};
 use reference::listing;
 use reference::realm::Realm;
 use reference::terms::Message;
+use reference::writing;
 
 fn lines(file: &[u8]) -> Vec<String> {
     listing(file).lines().map(String::from).collect()
@@ -41,13 +43,10 @@ fn realm(file: &[u8]) -> Realm {
     realm
 }
 
-const LONG: [fn(usize) -> Vec<u8>; 5] =
-    [walks::honest, walks::terms_only, walks::first_term, walks::deliveries, walks::deep];
-
 #[test]
-fn both_sides_list_every_row_alike() {
+fn both_sides_do_every_row_alike() {
     for row in &ROWS {
-        assert!(compare(&(row.files)(1)).is_ok(), "{}", row.name);
+        assert!(compare(&row.input(1)).is_ok(), "{}", row.name);
     }
 }
 
@@ -216,4 +215,19 @@ fn small_files_are_many_and_small() {
     assert!(files.iter().all(|file| file.len() <= walks::SMALL_BYTES));
     let records: usize = files.iter().map(|file| lines(file).len()).sum();
     assert!(records > 20 * files.len(), "{records}");
+}
+
+/// No record of theirs is turned away by its own fields, so each walk is written
+/// as its file.
+#[test]
+fn long_walks_are_written_as_their_files() {
+    for eighths in [1, 8] {
+        let files = walks::long(eighths);
+        assert_eq!(files.len(), LONG.len());
+        for file in files {
+            let Walk { header, words } = Walk::of(&file);
+            assert_eq!(words.len() / 7 + 2, lines(&file).len());
+            assert!(writing::file(&header, &words).unwrap() == file);
+        }
+    }
 }
