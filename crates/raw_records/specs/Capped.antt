@@ -31,6 +31,13 @@ fields step run a b m t = record { step = step; run = run; a = a; b = b; m = m; 
 abbrev pub cappedFields : (step run a b m t : ℕ) → Step
 cappedFields step run a b m t = fields (capped 255 step) (capped 255 run) (capped 255 a) (capped 255 b) (capped 65535 m) t
 
+module _ (run m : ℕ) where
+  pub not-wide : (ltb run 256 && ltb m 65536) ≡ true → 0 ≡ wideRefusal run m
+  not-wide e = rw e
+
+  pub too-wide : (ltb run 256 && ltb m 65536) ≡ false → 6 ≡ wideRefusal run m
+  too-wide e = rw e
+
 -- ---- tests of a number and of what it is capped to
 
 module _ (most x : ℕ) where

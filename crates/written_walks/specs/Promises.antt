@@ -3,7 +3,7 @@
 -- records and refusals of `raw_records`); these are laws of `writeOf`. What the engine then answers to the records is in
 -- `written_answers`.
 -- Assumes nothing.
-use mathlib.Core.Path.{_≡_}
+use mathlib.Core.Path.{_≡_, sym, subst}
 use mathlib.Core.Bool.{true}
 use mathlib.Core.List.{List, map}
 use Prim.Native.Nat.{ℕ, _+_, _^_, _<_, _≤_}
@@ -44,7 +44,7 @@ module _ (n flags ls la : ℕ) (words buffer : List ℕ) (at count : ℕ) (after
   -- and these records, to its end.
   pub read-back : n < 2 ^ 8 → flags < 2 ^ 16 → ls < 2 ^ 32 → la < 2 ^ 32 → Words words → ReadsAs (take count (drop at after)) n flags ls la (callsOf (recordsOf words))
   read-back hn hf hs ha w =
-      rw (file-at n flags ls la words buffer at count after is-done)
+      subst (λ (bytes : List ℕ). ReadsAs bytes n flags ls la (callsOf (recordsOf words))) (sym (file-at n flags ls la words buffer at count after is-done))
       (file-back n flags ls la (recordsOf words) hf hs ha (written-passes .short) (records-fit n hn words w (written-passes .records)))
 
   -- "All other bytes of the buffer keep their values."
