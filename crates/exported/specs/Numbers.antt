@@ -12,8 +12,8 @@ use Rattle.realm.specs.Tables.{Tables}
 use Rattle.effects.specs.Apply.{Outcome}
 use Rattle.calls.specs.declared.Called.{Called}
 use Rattle.walkfile.specs.Listing as listing
-use Rattle.writer.specs.declared.walk.Written.{Written}
-use Rattle.writer.specs.declared.walk.Written.the-variants as writing
+use Rattle.writer.specs.declared.walk.Filing.{Filing}
+use Rattle.writer.specs.declared.walk.Filing.the-variants as filing
 use Rattle.writer.specs.Write.{WriteOutcome}
 use Rattle.exported.specs.declared.Filed.{Filed}
 use Rattle.exported.specs.declared.Listed.{Listed}
@@ -57,9 +57,9 @@ shown (listing.no-room buffer) = (record { fits = false; count = 0 }, buffer)
 -- ---- a walk written
 
 -- the refusal's number or 0, and the number of bytes or 0
-abbrev pub filedAs : Written → Filed
-filedAs (writing.Count count) = record { refusal = 0; count = count }
-filedAs (writing.Refused number) = record { refusal = number; count = 0 }
+abbrev pub filedAs : Filing → Filed
+filedAs (filing.Written count) = record { refusal = 0; count = count }
+filedAs (filing.Refused number) = record { refusal = number; count = 0 }
 
 -- and the buffer
 abbrev pub filed : WriteOutcome → Filed × List ℕ

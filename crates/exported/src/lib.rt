@@ -8,7 +8,7 @@ use realm::header::Realm;
 use replay::entry::Entry;
 use walkfile::Listing;
 use walkfile::list;
-use writer::walk::Written;
+use writer::walk::Filing;
 use writer::walk::write_walk;
 ghost use mathlib.Core.Path.{_≡_};
 ghost use Rattle.realm.specs.Tables.{tables};
@@ -157,7 +157,7 @@ pub extern "C" fn pogandir_write(
     ensures { λ r. ⌜ (r, now (out .exit)) ≡ filed (writeOf n flags ls la (now (words .entry)) (now (out .entry)) at) ⌝ }
 {
     match write_walk(n, flags, ls, la, words, out, at) {
-        Written::Count(count) => Filed { refusal: 0, count },
-        Written::Refused(refusal) => Filed { refusal, count: 0 },
+        Filing::Written(count) => Filed { refusal: 0, count },
+        Filing::Refused(refusal) => Filed { refusal, count: 0 },
     }
 }

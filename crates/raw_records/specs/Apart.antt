@@ -1,5 +1,5 @@
 -- The refusals of a call's fields are the writer's, which look at the fields alone, and behind them 6 for what depends on the walk:
--- a run or a term that is not present, or a key of another kind.
+-- a run or a term that is not walkHas, or a key of another kind.
 -- Assumes nothing.
 use mathlib.Core.Path.{_≡_, refl, sym, ap, _∙_}
 use mathlib.Core.Bool.{Bool, true, false, not, _&&_, _||_, cond}
@@ -18,7 +18,7 @@ use Rattle.realm.specs.declared.header.Realm.{Realm}
 use Rattle.realm.specs.declared.input.Uses.{Uses}
 use Rattle.realm.specs.Input.{usesOf, unusedZero, inRange, inputRefusal}
 use Rattle.raw_records.specs.Refusals.{first, first-none, termRefusal, roomy, stepRefusal, ownRefusal}
-use Rattle.raw_records.specs.Capped.{fields}
+use Rattle.raw_records.specs.Capped.{stepFields}
 use Rattle.raw_records.specs.Calls.{rawFor}
 
 -- ---- definitions
@@ -26,22 +26,22 @@ use Rattle.raw_records.specs.Calls.{rawFor}
 -- what a realm and its terms say of the fields of a call: 0, or 4, 5 or 6
 abbrev pub fieldsRefusal : Realm → List ℕ → Call → ℕ
 fieldsRefusal h ts (Term kind l r) = refusalOf (h .n) ts (h .terms) (packed kind l r)
-fieldsRefusal h ts (Step step run a b m t) = inputRefusal h (fields step run a b m t)
+fieldsRefusal h ts (Step step run a b m t) = inputRefusal h (stepFields step run a b m t)
 
--- not: "term not present, .. lock key of another kind"; only pairs and encryptions name terms
-abbrev pub termsPresent : Realm → List ℕ → (kind l r : ℕ) → Bool
-termsPresent h ts kind l r =
+-- not: "term not walkHas, .. lock key of another kind"; only pairs and encryptions name terms
+abbrev pub hasTerms : Realm → List ℕ → (kind l r : ℕ) → Bool
+hasTerms h ts kind l r =
     cond (eqb kind 5) (ltb l (h .terms) && ltb r (h .terms))
     (cond (eqb kind 6) (ltb l (h .terms) && (ltb r (h .terms) && isKey (termAt ts r))) true)
 
 -- not: "run or term not present"
-abbrev pub usedPresent : Realm → Uses → (run m : ℕ) → Bool
-usedPresent h u run m = (not (u .run) || ltb run (h .runs)) && (not (u .m) || ltb m (h .terms))
+abbrev pub hasUsed : Realm → Uses → (run m : ℕ) → Bool
+hasUsed h u run m = (not (u .run) || ltb run (h .runs)) && (not (u .m) || ltb m (h .terms))
 
 -- "what depends on the walk's runs and terms"
-unfoldable pub present : Realm → List ℕ → Call → Bool
-present h ts (Term kind l r) = termsPresent h ts kind l r
-present h ts (Step step run a b m t) = usedPresent h (usesOf step) run m
+unfoldable pub walkHas : Realm → List ℕ → Call → Bool
+walkHas h ts (Term kind l r) = hasTerms h ts kind l r
+walkHas h ts (Step step run a b m t) = hasUsed h (usesOf step) run m
 
 -- ---- a term
 
@@ -90,7 +90,7 @@ module _ (h : Realm) (ts : List ℕ) (l r : ℕ) (hl : l < 65536) (hr : r < 6553
   two-fields : (x : Bool) → _≡_ {A = ℕ} (cond x 0 6) (first (cond (ltb l 65536 && ltb r 65536) 0 6) (cond x 0 6))
   two-fields x = rw (lt-ltb l 65536 hl, lt-ltb r 65536 hr)
 
-  term-apart : (kind : ℕ) → refusalBy (h .n) ts (h .terms) kind l r ≡ first (termRefusal (h .n) kind l r) (cond (termsPresent h ts kind l r) 0 6)
+  term-apart : (kind : ℕ) → refusalBy (h .n) ts (h .terms) kind l r ≡ first (termRefusal (h .n) kind l r) (cond (hasTerms h ts kind l r) 0 6)
   unfolding termRefusal
   term-apart zero = one-field (ltb l (h .n)) (h .n) refl
   term-apart (suc zero) = two-fields true
@@ -141,24 +141,24 @@ behind false u r p = refl
 
 module _ (h : Realm) (ts : List ℕ) (runs-few : h .runs ≤ 256) (terms-few : h .terms ≤ 65536) where
   range-apart : (u : Uses) (step run a b m t : ℕ)
-      → inRange h u (fields step run a b m t) ≡ (inRange (roomy (h .n)) u (fields step run a b m t) && usedPresent h u run m)
+      → inRange h u (stepFields step run a b m t) ≡ (inRange (roomy (h .n)) u (stepFields step run a b m t) && hasUsed h u run m)
   unfolding inRange
   range-apart u step run a b m t =
       narrowed (not (u .run) || ltb run 256) (not (u .run) || ltb run (h .runs)) (not (u .a) || principalsFit (h .n) a b) (not (u .b) || ltb b (h .n))
       (not (u .m) || ltb m 65536) (not (u .m) || ltb m (h .terms)) (wider (u .run) run (h .runs) 256 runs-few) (wider (u .m) m (h .terms) 65536 terms-few)
 
   step-apart : (step run a b m t : ℕ)
-      → inputRefusal h (fields step run a b m t) ≡ first (stepRefusal (h .n) step run a b m t) (cond (usedPresent h (usesOf step) run m) 0 6)
+      → inputRefusal h (stepFields step run a b m t) ≡ first (stepRefusal (h .n) step run a b m t) (cond (hasUsed h (usesOf step) run m) 0 6)
   unfolding inputRefusal
   step-apart step run a b m t =
       let u = usesOf step in
-      ap (λ (x : Bool). cond (leb 1 step && leb step 10) (cond (unusedZero u (fields step run a b m t)) (cond x 0 6) 5) 4) (range-apart u step run a b m t)
-      ∙ behind (leb 1 step && leb step 10) (unusedZero u (fields step run a b m t)) (inRange (roomy (h .n)) u (fields step run a b m t)) (usedPresent h u run m)
+      ap (λ (x : Bool). cond (leb 1 step && leb step 10) (cond (unusedZero u (stepFields step run a b m t)) (cond x 0 6) 5) 4) (range-apart u step run a b m t)
+      ∙ behind (leb 1 step && leb step 10) (unusedZero u (stepFields step run a b m t)) (inRange (roomy (h .n)) u (stepFields step run a b m t)) (hasUsed h u run m)
 
   -- ---- a call
 
-  pub fields-apart : (c : Call) → Sized c → fieldsRefusal h ts c ≡ first (ownRefusal (h .n) (rawFor c)) (cond (present h ts c) 0 6)
-  unfolding ownRefusal present
+  pub fields-apart : (c : Call) → Sized c → fieldsRefusal h ts c ≡ first (ownRefusal (h .n) (rawFor c)) (cond (walkHas h ts c) 0 6)
+  unfolding ownRefusal walkHas
   fields-apart (Term kind l r) f =
       by-parts (h .n) ts (h .terms) kind l r (omega (arith, f .1)) (omega (arith, f .2)) ∙ term-apart h ts l r (omega (arith, f .1)) (omega (arith, f .2)) kind
   fields-apart (Step step run a b m t) f = step-apart step run a b m t

@@ -14,44 +14,44 @@ use Rattle.raw_records.specs.Raw.{rawBy, recordsOf}
 -- ---- definitions
 
 -- the calls of records, in their order
-abbrev pub callsOf : List RawRecord → List Call
-callsOf [] = []
-callsOf (Term kind l r ∷ raws) = call.Term kind l r ∷ callsOf raws
-callsOf (Step step run a b m t ∷ raws) = call.Step step run a b m t ∷ callsOf raws
-callsOf (Unknown ∷ raws) = callsOf raws
+abbrev pub callsFrom : List RawRecord → List Call
+callsFrom [] = []
+callsFrom (Term kind l r ∷ raws) = call.Term kind l r ∷ callsFrom raws
+callsFrom (Step step run a b m t ∷ raws) = call.Step step run a b m t ∷ callsFrom raws
+callsFrom (Unknown ∷ raws) = callsFrom raws
 
 abbrev pub rawFor : Call → RawRecord
 rawFor (call.Term kind l r) = Term kind l r
 rawFor (call.Step step run a b m t) = Step step run a b m t
 
-abbrev pub wordsFor : Call → List ℕ
-wordsFor (call.Term kind l r) = termMark ∷ kind ∷ l ∷ r ∷ 0 ∷ 0 ∷ 0 ∷ []
-wordsFor (call.Step step run a b m t) = stepMark ∷ step ∷ run ∷ a ∷ b ∷ m ∷ t ∷ []
+abbrev pub callWords : Call → List ℕ
+callWords (call.Term kind l r) = termMark ∷ kind ∷ l ∷ r ∷ 0 ∷ 0 ∷ 0 ∷ []
+callWords (call.Step step run a b m t) = stepMark ∷ step ∷ run ∷ a ∷ b ∷ m ∷ t ∷ []
 
 -- the words by which a caller hands calls to the writer
-abbrev pub wordsOf : List Call → List ℕ
-wordsOf [] = []
-wordsOf (c ∷ calls) = wordsFor c ++ wordsOf calls
+abbrev pub wordsFor : List Call → List ℕ
+wordsFor [] = []
+wordsFor (c ∷ calls) = callWords c ++ wordsFor calls
 
 -- it is a record, and every number has its field's width
-abbrev pub Fits : RawRecord → Type 0
-Fits (Term kind l r) = Sized (call.Term kind l r)
-Fits (Step step run a b m t) = Sized (call.Step step run a b m t)
-Fits Unknown = ⊥
+abbrev pub RawSized : RawRecord → Type 0
+RawSized (Term kind l r) = Sized (call.Term kind l r)
+RawSized (Step step run a b m t) = Sized (call.Step step run a b m t)
+RawSized Unknown = ⊥
 
-abbrev pub AllFit : List RawRecord → Type 0
-AllFit [] = Unit {0}
-AllFit (raw ∷ raws) = Fits raw × AllFit raws
+abbrev pub AllRawSized : List RawRecord → Type 0
+AllRawSized [] = Unit {0}
+AllRawSized (raw ∷ raws) = RawSized raw × AllRawSized raws
 
 -- ---- laws
 
-pub records-for : (calls : List Call) → recordsOf (wordsOf calls) ≡ map rawFor calls
+pub records-for : (calls : List Call) → recordsOf (wordsFor calls) ≡ map rawFor calls
 unfolding recordsOf rawBy
 records-for [] = refl
 records-for (call.Term kind l r ∷ calls) = ap (λ (raws : List RawRecord). Term kind l r ∷ raws) (records-for calls)
 records-for (call.Step step run a b m t ∷ calls) = ap (λ (raws : List RawRecord). Step step run a b m t ∷ raws) (records-for calls)
 
-pub calls-for : (calls : List Call) → callsOf (map rawFor calls) ≡ calls
+pub calls-for : (calls : List Call) → callsFrom (map rawFor calls) ≡ calls
 calls-for [] = refl
 calls-for (call.Term kind l r ∷ calls) = ap (λ (cs : List Call). call.Term kind l r ∷ cs) (calls-for calls)
 calls-for (call.Step step run a b m t ∷ calls) = ap (λ (cs : List Call). call.Step step run a b m t ∷ cs) (calls-for calls)

@@ -24,12 +24,12 @@ capped most x = cond (ltb most x) most x
 abbrev pub wideRefusal : (run m : ℕ) → ℕ
 wideRefusal run m = cond (ltb run 256 && ltb m 65536) 0 6
 
-abbrev pub fields : (step run a b m t : ℕ) → Step
-fields step run a b m t = record { step = step; run = run; a = a; b = b; m = m; t = t }
+abbrev pub stepFields : (step run a b m t : ℕ) → Step
+stepFields step run a b m t = record { step = step; run = run; a = a; b = b; m = m; t = t }
 
 -- the fields that the code looks at
 abbrev pub cappedFields : (step run a b m t : ℕ) → Step
-cappedFields step run a b m t = fields (capped 255 step) (capped 255 run) (capped 255 a) (capped 255 b) (capped 65535 m) t
+cappedFields step run a b m t = stepFields (capped 255 step) (capped 255 run) (capped 255 a) (capped 255 b) (capped 65535 m) t
 
 module _ (run m : ℕ) where
   pub not-wide : (ltb run 256 && ltb m 65536) ≡ true → 0 ≡ wideRefusal run m
@@ -110,9 +110,9 @@ unused-small true x most e p u = no-true (sym u)
 unused-small false x most e p u = let z = eqb-true x 0 e in lt-ltb x most (omega arith)
 
 module _ (n step run a b m t : ℕ) (small : n ≤ 255) where
-  range-same : (u : Uses) → unusedZero u (fields step run a b m t) ≡ true
-      → first (cond (inRange (roomy n) u (fields step (capped 255 run) (capped 255 a) (capped 255 b) (capped 65535 m) t)) 0 6) (wideRefusal run m)
-      ≡ cond (inRange (roomy n) u (fields step run a b m t)) 0 6
+  range-same : (u : Uses) → unusedZero u (stepFields step run a b m t) ≡ true
+      → first (cond (inRange (roomy n) u (stepFields step (capped 255 run) (capped 255 a) (capped 255 b) (capped 65535 m) t)) 0 6) (wideRefusal run m)
+      ≡ cond (inRange (roomy n) u (stepFields step run a b m t)) 0 6
   unfolding inRange
   range-same u e =
       let f = five (u .run || eqb run 0) (u .a || eqb a 0) (u .b || eqb b 0) (u .m || eqb m 0) (u .t || eqb t 0) e in
@@ -120,7 +120,7 @@ module _ (n step run a b m t : ℕ) (small : n ≤ 255) where
       (apart (u .run) (u .m) (ltb run 256) (ltb m 65536) (not (u .a) || principalsFit n a b) (not (u .b) || ltb b n)
       (unused-small (u .run) run 256 (f .first) (omega arith)) (unused-small (u .m) m 65536 (f .fourth) (omega arith)))
 
-  unused-same : (u : Uses) → unusedZero u (fields step (capped 255 run) (capped 255 a) (capped 255 b) (capped 65535 m) t) ≡ unusedZero u (fields step run a b m t)
+  unused-same : (u : Uses) → unusedZero u (stepFields step (capped 255 run) (capped 255 a) (capped 255 b) (capped 65535 m) t) ≡ unusedZero u (stepFields step run a b m t)
   unused-same u =
       rw (
         zero-same 255 run (omega arith),
@@ -134,17 +134,17 @@ module _ (n step run a b m t : ℕ) (small : n ≤ 255) where
   step-same = on (ltb 255 step) refl
     where
       on : (w : Bool) → ltb 255 step ≡ w
-          → first (inputRefusal (roomy n) (fields (cond w 255 step) (capped 255 run) (capped 255 a) (capped 255 b) (capped 65535 m) t)) (wideRefusal run m)
+          → first (inputRefusal (roomy n) (stepFields (cond w 255 step) (capped 255 run) (capped 255 a) (capped 255 b) (capped 65535 m) t)) (wideRefusal run m)
           ≡ stepRefusal n step run a b m t
-      on true e = let h = ltb-true 255 step e in no-step-above (roomy n) (fields step run a b m t) (omega arith)
+      on true e = let h = ltb-true 255 step e in no-step-above (roomy n) (stepFields step run a b m t) (omega arith)
       on false e =
           rw (unused-same (usesOf step))
-          (chosen (leb 1 step && leb step 10) (unusedZero (usesOf step) (fields step run a b m t))
-          (inRange (roomy n) (usesOf step) (fields step run a b m t))
-          (inRange (roomy n) (usesOf step) (fields step (capped 255 run) (capped 255 a) (capped 255 b) (capped 65535 m) t))
+          (chosen (leb 1 step && leb step 10) (unusedZero (usesOf step) (stepFields step run a b m t))
+          (inRange (roomy n) (usesOf step) (stepFields step run a b m t))
+          (inRange (roomy n) (usesOf step) (stepFields step (capped 255 run) (capped 255 a) (capped 255 b) (capped 65535 m) t))
           (wideRefusal run m) (range-same (usesOf step)))
 
   -- the code's answer, from those of the functions that it calls
   pub step-told : {s r x y z p w told : ℕ} → s ≡ capped 255 step → r ≡ capped 255 run → x ≡ capped 255 a → y ≡ capped 255 b → z ≡ capped 65535 m
-      → p ≡ inputRefusal (roomy n) (fields s r x y z t) → w ≡ wideRefusal run m → told ≡ first p w → told ≡ stepRefusal n step run a b m t
+      → p ≡ inputRefusal (roomy n) (stepFields s r x y z t) → w ≡ wideRefusal run m → told ≡ first p w → told ≡ stepRefusal n step run a b m t
   step-told es er ex ey ez ep ew e = rw (e, ep, ew, es, er, ex, ey, ez) step-same

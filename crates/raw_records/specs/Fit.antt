@@ -19,14 +19,14 @@ use Rattle.raw_records.specs.declared.raw.RawRecord.{RawRecord}
 use Rattle.raw_records.specs.declared.raw.RawRecord.the-variants.{Term, Step, Unknown}
 use Rattle.raw_records.specs.Raw.{rawBy, recordsOf}
 use Rattle.raw_records.specs.Refusals.{first-zero, usesRight, limitOf, termRefusal, roomy, stepRefusal, ownRefusal, recordsRefusal}
-use Rattle.raw_records.specs.Capped.{fields}
-use Rattle.raw_records.specs.Calls.{Fits, AllFit}
+use Rattle.raw_records.specs.Capped.{stepFields}
+use Rattle.raw_records.specs.Calls.{RawSized, AllRawSized}
 
 -- every number is a word
-pub record Words (words : List ℕ) : Type 0 where
+pub record Words32 (words : List ℕ) : Type 0 where
   pub small : (k : ℕ) → getD words k 0 < 2 ^ 32
 
-drop-words : {words : List ℕ} → Words words → (at : ℕ) → Words (drop at words)
+drop-words : {words : List ℕ} → Words32 words → (at : ℕ) → Words32 (drop at words)
 drop-words {words} w at = record { small = λ k. rw (getD-drop at words k 0) (w .small (at + k)) }
 
 -- ---- a term
@@ -42,7 +42,7 @@ three false false c e = absurd (omega arith)
 three false true false e = absurd (omega arith)
 three false true true e = (refl, refl)
 
-term-fits : (n kind l r : ℕ) → n < 2 ^ 8 → termRefusal n kind l r ≡ 0 → Fits (Term kind l r)
+term-fits : (n kind l r : ℕ) → n < 2 ^ 8 → termRefusal n kind l r ≡ 0 → RawSized (Term kind l r)
 unfolding termRefusal
 term-fits n kind l r h e =
     let t = three (ltb 6 kind) (usesRight kind || eqb r 0) (ltb l (limitOf n kind) && ltb r 65536) e in
@@ -58,12 +58,12 @@ field-below : (used : Bool) (x limit : ℕ) → 0 < limit → (used || eqb x 0) 
 field-below true x limit p e f = f refl
 field-below false x limit p e f = let z = eqb-true x 0 e in omega arith
 
-step-fits : (n step run a b m t : ℕ) → n < 2 ^ 8 → t < 2 ^ 32 → stepRefusal n step run a b m t ≡ 0 → Fits (Step step run a b m t)
+step-fits : (n step run a b m t : ℕ) → n < 2 ^ 8 → t < 2 ^ 32 → stepRefusal n step run a b m t ≡ 0 → RawSized (Step step run a b m t)
 step-fits n step run a b m t small last e =
     let u : Uses = usesOf step in
-    let p = passed (roomy n) (fields step run a b m t) e in
+    let p = passed (roomy n) (stepFields step run a b m t) e in
     let z = five (u .run || eqb run 0) (u .a || eqb a 0) (u .b || eqb b 0) (u .m || eqb m 0) (u .t || eqb t 0) (p .unused) in
-    let r = in-range (roomy n) u (fields step run a b m t) (p .range) in (
+    let r = in-range (roomy n) u (stepFields step run a b m t) (p .range) in (
       omega (arith, p .high),
       field-below (u .run) run 256 (omega arith) (z .first) (r .run),
       field-below (u .a) a 256 (omega arith) (z .second) (λ i. omega (arith, r .principals i .a-below)),
@@ -75,19 +75,19 @@ step-fits n step run a b m t small last e =
 -- ---- all records
 
 module _ (n : ℕ) (small : n < 2 ^ 8) where
-  record-fits : (mark u v w x y z : ℕ) → z < 2 ^ 32 → ownRefusal n (rawBy mark u v w x y z) ≡ 0 → Fits (rawBy mark u v w x y z)
+  record-fits : (mark u v w x y z : ℕ) → z < 2 ^ 32 → ownRefusal n (rawBy mark u v w x y z) ≡ 0 → RawSized (rawBy mark u v w x y z)
   unfolding rawBy ownRefusal
   record-fits mark u v w x y z h =
-      cond-elim (λ (raw : RawRecord). ownRefusal n raw ≡ 0 → Fits raw) (eqb mark termMark) (Term u v w) (cond (eqb mark stepMark) (Step u v w x y z) Unknown)
+      cond-elim (λ (raw : RawRecord). ownRefusal n raw ≡ 0 → RawSized raw) (eqb mark termMark) (Term u v w) (cond (eqb mark stepMark) (Step u v w x y z) Unknown)
       (λ _ e. term-fits n u v w small e)
-      (λ _. cond-elim (λ (raw : RawRecord). ownRefusal n raw ≡ 0 → Fits raw) (eqb mark stepMark) (Step u v w x y z) Unknown
+      (λ _. cond-elim (λ (raw : RawRecord). ownRefusal n raw ≡ 0 → RawSized raw) (eqb mark stepMark) (Step u v w x y z) Unknown
       (λ _ e. step-fits n u v w x y z small h e) (λ _ e. absurd (omega arith)))
 
   cut : {A : Type 0} → recordsRefusal n (Unknown ∷ []) ≡ 0 → A
   unfolding ownRefusal
   cut e = absurd (omega arith)
 
-  pub records-fit : (words : List ℕ) → Words words → recordsRefusal n (recordsOf words) ≡ 0 → AllFit (recordsOf words)
+  pub records-fit : (words : List ℕ) → Words32 words → recordsRefusal n (recordsOf words) ≡ 0 → AllRawSized (recordsOf words)
   unfolding recordsOf
   records-fit [] w e = tt
   records-fit (_ ∷ []) w e = cut e

@@ -11,8 +11,8 @@ use Rattle.realm.specs.Opening.{headerFits}
 use Rattle.raw_records.specs.Raw.{rawBy, recordsOf}
 use Rattle.raw_records.specs.Refusals.{termRefusal, ownRefusal}
 use Rattle.fields.specs.Placed.{placed}
-use Rattle.writer.specs.declared.walk.Written.the-variants.{Count, Refused}
-use Rattle.writer.specs.File.{headerBytes, recordBytes, fileOf}
+use Rattle.writer.specs.declared.walk.Filing.the-variants.{Written, Refused}
+use Rattle.writer.specs.File.{headerInBytes, recordInBytes, fileOf}
 use Rattle.writer.specs.Write.{writeOutcome, writeRefusal, writeOf}
 
 -- ST 1 (a 1, b 2)
@@ -34,26 +34,26 @@ file =
     ∷ 0x54 ∷ 0x4D ∷ 5 ∷ 0 ∷ 15 ∷ 0 ∷ 16 ∷ []
 
 -- 32 bytes from offset 2 on, in a buffer of 35
-pub two-records : writeOf 3 0 100 10 (step ++ term) (replicate 35 7) 2 ≡ writeOutcome (Count 32) ((7 ∷ 7 ∷ []) ++ file ++ (7 ∷ []))
-unfolding writeOf writeRefusal fileOf headerBytes recordBytes recordsOf rawBy ownRefusal termRefusal inputRefusal usesTable inRange headerFits isSet bit placed
+pub two-records : writeOf 3 0 100 10 (step ++ term) (replicate 35 7) 2 ≡ writeOutcome (Written 32) ((7 ∷ 7 ∷ []) ++ file ++ (7 ∷ []))
+unfolding writeOf writeRefusal fileOf headerInBytes recordInBytes recordsOf rawBy ownRefusal termRefusal inputRefusal usesTable inRange headerFits isSet bit placed
 two-records = refl
 
 -- one byte short
 pub no-room : writeOf 3 0 100 10 (step ++ term) (replicate 33 7) 2 ≡ writeOutcome (Refused 21) (replicate 33 7)
-unfolding writeOf writeRefusal fileOf headerBytes recordBytes recordsOf rawBy ownRefusal termRefusal inputRefusal usesTable inRange headerFits isSet bit placed
+unfolding writeOf writeRefusal fileOf headerInBytes recordInBytes recordsOf rawBy ownRefusal termRefusal inputRefusal usesTable inRange headerFits isSet bit placed
 no-room = refl
 
 -- an offset past the end, and a step that does not exist: the record comes first
 pub record-first : writeOf 3 0 100 10 (step ++ no-step) (replicate 3 7) 4 ≡ writeOutcome (Refused 4) (replicate 3 7)
-unfolding writeOf writeRefusal fileOf headerBytes recordBytes recordsOf rawBy ownRefusal termRefusal inputRefusal usesTable inRange headerFits isSet bit placed
+unfolding writeOf writeRefusal fileOf headerInBytes recordInBytes recordsOf rawBy ownRefusal termRefusal inputRefusal usesTable inRange headerFits isSet bit placed
 record-first = refl
 
 -- and two principals: the header comes before the record
 pub header-first : writeOf 2 0 100 10 (step ++ no-step) (replicate 3 7) 4 ≡ writeOutcome (Refused 2) (replicate 3 7)
-unfolding writeOf writeRefusal fileOf headerBytes recordBytes recordsOf rawBy ownRefusal termRefusal inputRefusal usesTable inRange headerFits isSet bit placed
+unfolding writeOf writeRefusal fileOf headerInBytes recordInBytes recordsOf rawBy ownRefusal termRefusal inputRefusal usesTable inRange headerFits isSet bit placed
 header-first = refl
 
 -- a last record cut short
 pub cut-short : writeOf 3 0 100 10 (step ++ 0x544D ∷ []) (replicate 3 7) 4 ≡ writeOutcome (Refused 3) (replicate 3 7)
-unfolding writeOf writeRefusal fileOf headerBytes recordBytes recordsOf rawBy ownRefusal termRefusal inputRefusal usesTable inRange headerFits isSet bit placed
+unfolding writeOf writeRefusal fileOf headerInBytes recordInBytes recordsOf rawBy ownRefusal termRefusal inputRefusal usesTable inRange headerFits isSet bit placed
 cut-short = refl

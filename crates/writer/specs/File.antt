@@ -22,18 +22,18 @@ abbrev pub bytes32 : ℕ → List ℕ
 bytes32 x = bytes16 (x / 65536) ++ bytes16 x
 
 -- "HD, n (1 byte), flags (2), Ls (4), La (4)"
-unfoldable pub headerBytes : (n flags ls la : ℕ) → List ℕ
-headerBytes n flags ls la = bytes16 headerMark ++ n ∷ bytes16 flags ++ bytes32 ls ++ bytes32 la
+unfoldable pub headerInBytes : (n flags ls la : ℕ) → List ℕ
+headerInBytes n flags ls la = bytes16 headerMark ++ n ∷ bytes16 flags ++ bytes32 ls ++ bytes32 la
 
 -- "TM, kind (1), L (2), R (2); ST, step (1), run (1), a (1), b (1), m (2), t (4)"; what is no record has no bytes
-unfoldable pub recordBytes : RawRecord → List ℕ
-recordBytes (Term kind l r) = bytes16 termMark ++ low kind ∷ bytes16 l ++ bytes16 r
-recordBytes (Step step run a b m t) = bytes16 stepMark ++ low step ∷ low run ∷ low a ∷ low b ∷ bytes16 m ++ bytes32 t
-recordBytes Unknown = []
+unfoldable pub recordInBytes : RawRecord → List ℕ
+recordInBytes (Term kind l r) = bytes16 termMark ++ low kind ∷ bytes16 l ++ bytes16 r
+recordInBytes (Step step run a b m t) = bytes16 stepMark ++ low step ∷ low run ∷ low a ∷ low b ∷ bytes16 m ++ bytes32 t
+recordInBytes Unknown = []
 
-abbrev pub bodyOf : List RawRecord → List ℕ
-bodyOf [] = []
-bodyOf (raw ∷ raws) = recordBytes raw ++ bodyOf raws
+abbrev pub recordsInBytes : List RawRecord → List ℕ
+recordsInBytes [] = []
+recordsInBytes (raw ∷ raws) = recordInBytes raw ++ recordsInBytes raws
 
 unfoldable pub fileOf : (n flags ls la : ℕ) → List RawRecord → List ℕ
-fileOf n flags ls la raws = headerBytes n flags ls la ++ bodyOf raws
+fileOf n flags ls la raws = headerInBytes n flags ls la ++ recordsInBytes raws

@@ -13,7 +13,7 @@ use Rattle.raw_records.specs.declared.raw.RawRecord.the-variants.{Term, Step, U
 use Rattle.raw_records.specs.Raw.{recordsOf, rawAt, record-next, none-left, cut-short}
 use Rattle.raw_records.specs.Passing.{recordsFrom}
 use Rattle.fields.specs.Placed.{placed, Wrote, joined, wrote-as}
-use Rattle.writer.specs.File.{low, high, headerBytes, recordBytes, bodyOf}
+use Rattle.writer.specs.File.{low, high, headerInBytes, recordInBytes, recordsInBytes}
 
 -- ---- definitions
 
@@ -25,39 +25,39 @@ pub record Measures (r bytes : ℕ) : Type 0 where
 -- the bytes of i records were written from `at` on
 pub record Progress (before : List ℕ) (at : ℕ) (words : List ℕ) (after : List ℕ) (end i : ℕ) : Type 0 where
   pub done : List ℕ
-  pub whole : done ++ bodyOf (recordsFrom words i) ≡ bodyOf (recordsOf words)
+  pub whole : done ++ recordsInBytes (recordsFrom words i) ≡ recordsInBytes (recordsOf words)
   pub wrote : Wrote before at done after end
 
 -- ---- bytes
 
-pub record-short : (raw : RawRecord) → length (recordBytes raw) ≤ 12
-unfolding recordBytes
+pub record-short : (raw : RawRecord) → length (recordInBytes raw) ≤ 12
+unfolding recordInBytes
 record-short (Term kind l r) = omega arith
 record-short (Step step run a b m t) = omega arith
 record-short Unknown = omega arith
 
-pub header-long : (n flags ls la : ℕ) → length (headerBytes n flags ls la) ≡ 13
-unfolding headerBytes
+pub header-long : (n flags ls la : ℕ) → length (headerInBytes n flags ls la) ≡ 13
+unfolding headerInBytes
 header-long n flags ls la = refl
 
 module _ (words : List ℕ) (i : ℕ) where
-  pub body-next : i * 7 + 7 ≤ length words → bodyOf (recordsFrom words i) ≡ recordBytes (rawAt words (i * 7)) ++ bodyOf (recordsFrom words (i + 1))
-  body-next h = ap bodyOf (record-next words i h)
+  pub body-next : i * 7 + 7 ≤ length words → recordsInBytes (recordsFrom words i) ≡ recordInBytes (rawAt words (i * 7)) ++ recordsInBytes (recordsFrom words (i + 1))
+  body-next h = ap recordsInBytes (record-next words i h)
 
-  pub length-next : i * 7 + 7 ≤ length words → {k : ℕ} {raw : RawRecord} → raw ≡ rawAt words (i * 7) → k ≡ length (recordBytes raw)
-      → length (bodyOf (recordsFrom words i)) ≡ k + length (bodyOf (recordsFrom words (i + 1)))
+  pub length-next : i * 7 + 7 ≤ length words → {k : ℕ} {raw : RawRecord} → raw ≡ rawAt words (i * 7) → k ≡ length (recordInBytes raw)
+      → length (recordsInBytes (recordsFrom words i)) ≡ k + length (recordsInBytes (recordsFrom words (i + 1)))
   length-next h {k} {raw} e l =
       ap (λ (b : List ℕ). length b) (body-next h)
-      ∙ length-append (recordBytes (rawAt words (i * 7))) (bodyOf (recordsFrom words (i + 1)))
-      ∙ ap (λ (j : ℕ). j + length (bodyOf (recordsFrom words (i + 1)))) (sym (l ∙ ap (λ (x : RawRecord). length (recordBytes x)) e))
+      ∙ length-append (recordInBytes (rawAt words (i * 7))) (recordsInBytes (recordsFrom words (i + 1)))
+      ∙ ap (λ (j : ℕ). j + length (recordsInBytes (recordsFrom words (i + 1)))) (sym (l ∙ ap (λ (x : RawRecord). length (recordInBytes x)) e))
 
-  pub body-end : i * 7 ≤ length words → length words < i * 7 + 7 → bodyOf (recordsFrom words i) ≡ []
-  unfolding recordBytes
+  pub body-end : i * 7 ≤ length words → length words < i * 7 + 7 → recordsInBytes (recordsFrom words i) ≡ []
+  unfolding recordInBytes
   body-end l h = on (length words - i * 7) (length-drop (i * 7) words)
     where
-      on : (k : ℕ) → length (drop (i * 7) words) ≡ k → bodyOf (recordsFrom words i) ≡ []
-      on zero e = ap bodyOf (none-left (drop (i * 7) words) e)
-      on (suc k) e = ap bodyOf (cut-short (drop (i * 7) words) (omega arith) (omega (arith, length-drop (i * 7) words)))
+      on : (k : ℕ) → length (drop (i * 7) words) ≡ k → recordsInBytes (recordsFrom words i) ≡ []
+      on zero e = ap recordsInBytes (none-left (drop (i * 7) words) e)
+      on (suc k) e = ap recordsInBytes (cut-short (drop (i * 7) words) (omega arith) (omega (arith, length-drop (i * 7) words)))
 
 pub measured-above : (r bytes : ℕ) → maxFile < r → r ≤ bytes → Measures r bytes
 measured-above r bytes h l = record { exact = λ s. absurd (omega arith); above = λ s. h }
@@ -106,30 +106,30 @@ part-room xs at k h = omega (arith, mid-len at (length xs) xs (omega arith))
 
 module _ (kind l r : ℕ) where
   pub term-bytes : {b₂ b₃ b₄ b₅ b₆ : ℕ} → b₂ ≡ low kind → b₃ ≡ high l → b₄ ≡ low l → b₅ ≡ high r → b₆ ≡ low r
-      → 0x54 ∷ 0x4D ∷ b₂ ∷ b₃ ∷ b₄ ∷ b₅ ∷ b₆ ∷ [] ≡ recordBytes (Term kind l r)
-  unfolding recordBytes
+      → 0x54 ∷ 0x4D ∷ b₂ ∷ b₃ ∷ b₄ ∷ b₅ ∷ b₆ ∷ [] ≡ recordInBytes (Term kind l r)
+  unfolding recordInBytes
   term-bytes e₂ e₃ e₄ e₅ e₆ = rw (e₂, e₃, e₄, e₅, e₆)
 
-  pub term-room : {raw : RawRecord} {room : ℕ} → raw ≡ Term kind l r → length (recordBytes raw) ≤ room → 7 ≤ room
-  unfolding recordBytes
+  pub term-room : {raw : RawRecord} {room : ℕ} → raw ≡ Term kind l r → length (recordInBytes raw) ≤ room → 7 ≤ room
+  unfolding recordInBytes
   term-room e h = rw e at h
 
 module _ (step run a b m t : ℕ) where
   pub step-bytes : {b₂ b₃ b₄ b₅ b₆ b₇ b₈ b₉ c₀ c₁ : ℕ} → b₂ ≡ low step → b₃ ≡ low run → b₄ ≡ low a → b₅ ≡ low b → b₆ ≡ high m → b₇ ≡ low m
       → b₈ ≡ high (t / 65536) → b₉ ≡ low (t / 65536) → c₀ ≡ high t → c₁ ≡ low t
-      → 0x53 ∷ 0x54 ∷ b₂ ∷ b₃ ∷ b₄ ∷ b₅ ∷ b₆ ∷ b₇ ∷ b₈ ∷ b₉ ∷ c₀ ∷ c₁ ∷ [] ≡ recordBytes (Step step run a b m t)
-  unfolding recordBytes
+      → 0x53 ∷ 0x54 ∷ b₂ ∷ b₃ ∷ b₄ ∷ b₅ ∷ b₆ ∷ b₇ ∷ b₈ ∷ b₉ ∷ c₀ ∷ c₁ ∷ [] ≡ recordInBytes (Step step run a b m t)
+  unfolding recordInBytes
   step-bytes e₂ e₃ e₄ e₅ e₆ e₇ e₈ e₉ f₀ f₁ = rw (e₂, e₃, e₄, e₅, e₆, e₇, e₈, e₉, f₀, f₁)
 
-  pub step-room : {raw : RawRecord} {room : ℕ} → raw ≡ Step step run a b m t → length (recordBytes raw) ≤ room → 12 ≤ room
-  unfolding recordBytes
+  pub step-room : {raw : RawRecord} {room : ℕ} → raw ≡ Step step run a b m t → length (recordInBytes raw) ≤ room → 12 ≤ room
+  unfolding recordInBytes
   step-room e h = rw e at h
 
 module _ (n flags ls la : ℕ) where
   pub header-bytes : {b₃ b₄ b₅ b₆ b₇ b₈ b₉ c₀ c₁ c₂ : ℕ} → b₃ ≡ high flags → b₄ ≡ low flags → b₅ ≡ high (ls / 65536) → b₆ ≡ low (ls / 65536) → b₇ ≡ high ls
       → b₈ ≡ low ls → b₉ ≡ high (la / 65536) → c₀ ≡ low (la / 65536) → c₁ ≡ high la → c₂ ≡ low la
-      → 0x48 ∷ 0x44 ∷ n ∷ b₃ ∷ b₄ ∷ b₅ ∷ b₆ ∷ b₇ ∷ b₈ ∷ b₉ ∷ c₀ ∷ c₁ ∷ c₂ ∷ [] ≡ headerBytes n flags ls la
-  unfolding headerBytes
+      → 0x48 ∷ 0x44 ∷ n ∷ b₃ ∷ b₄ ∷ b₅ ∷ b₆ ∷ b₇ ∷ b₈ ∷ b₉ ∷ c₀ ∷ c₁ ∷ c₂ ∷ [] ≡ headerInBytes n flags ls la
+  unfolding headerInBytes
   header-bytes e₃ e₄ e₅ e₆ e₇ e₈ e₉ f₀ f₁ f₂ = rw (e₃, e₄, e₅, e₆, e₇, e₈, e₉, f₀, f₁, f₂)
 
 pub nothing-wrote : (xs : List ℕ) (at : ℕ) → Wrote xs at [] xs (at + 0)
@@ -143,13 +143,13 @@ nothing-wrote xs at = record {
     plain : (at : ℕ) → at ≡ at + 0
     plain at = omega arith
 
-pub unknown-wrote : (xs : List ℕ) {raw : RawRecord} → raw ≡ Unknown → Wrote xs 0 (recordBytes raw) xs 0
-unfolding recordBytes
-unknown-wrote xs e = wrote-as (sym (ap recordBytes e)) (nothing-wrote xs 0)
+pub unknown-wrote : (xs : List ℕ) {raw : RawRecord} → raw ≡ Unknown → Wrote xs 0 (recordInBytes raw) xs 0
+unfolding recordInBytes
+unknown-wrote xs e = wrote-as (sym (ap recordInBytes e)) (nothing-wrote xs 0)
 
 -- ---- one record after the other
 
-module _ (before : List ℕ) (at : ℕ) (words : List ℕ) (room : at + length (bodyOf (recordsOf words)) ≤ length before) where
+module _ (before : List ℕ) (at : ℕ) (words : List ℕ) (room : at + length (recordsInBytes (recordsOf words)) ≤ length before) where
   pub starts : Progress before at words before at 0
   starts = record { done = []; whole = refl; wrote = at-start }
     where
@@ -161,31 +161,31 @@ module _ (before : List ℕ) (at : ℕ) (words : List ℕ) (room : at + length (
 
   module _ (after : List ℕ) (end i : ℕ) (p : Progress before at words after end i) where
     pub end-within : end ≤ length before
-    end-within = omega (arith, room, p .wrote .offset, length-append (p .done) (bodyOf (recordsFrom words i)), ap (λ (b : List ℕ). length b) (p .whole))
+    end-within = omega (arith, room, p .wrote .offset, length-append (p .done) (recordsInBytes (recordsFrom words i)), ap (λ (b : List ℕ). length b) (p .whole))
 
-    pub next-fits : i * 7 + 7 ≤ length words → {raw : RawRecord} → raw ≡ rawAt words (i * 7) → end + length (recordBytes raw) ≤ length before
+    pub next-fits : i * 7 + 7 ≤ length words → {raw : RawRecord} → raw ≡ rawAt words (i * 7) → end + length (recordInBytes raw) ≤ length before
     next-fits h {raw} e =
         omega (
           arith,
           room,
           p .wrote .offset,
-          length-append (p .done) (bodyOf (recordsFrom words i)),
+          length-append (p .done) (recordsInBytes (recordsFrom words i)),
           ap (λ (b : List ℕ). length b) (p .whole),
           length-next words i h e refl,
         )
 
     pub goes-on : i * 7 + 7 ≤ length words → {raw : RawRecord} → raw ≡ rawAt words (i * 7) → {part : List ℕ} {n : ℕ}
-        → Wrote (midOf end (length after - end) after) 0 (recordBytes raw) part n
+        → Wrote (midOf end (length after - end) after) 0 (recordInBytes raw) part n
         → Progress before at words (putMid end (length after - end) after part) (end + n) (i + 1)
     goes-on h {raw} e {part} {n} w = record {
-      done = p .done ++ recordBytes raw;
-      whole = append-assoc (p .done) (recordBytes raw) (bodyOf (recordsFrom words (i + 1)))
-          ∙ ap (λ (x : RawRecord). p .done ++ (recordBytes x ++ bodyOf (recordsFrom words (i + 1)))) e
+      done = p .done ++ recordInBytes raw;
+      whole = append-assoc (p .done) (recordInBytes raw) (recordsInBytes (recordsFrom words (i + 1)))
+          ∙ ap (λ (x : RawRecord). p .done ++ (recordInBytes x ++ recordsInBytes (recordsFrom words (i + 1)))) e
           ∙ ap (λ (b : List ℕ). p .done ++ b) (sym (body-next words i h))
           ∙ p .whole;
-      wrote = joined (omega (arith, room)) (p .wrote) (part-wrote after end (recordBytes raw) w);
+      wrote = joined (omega (arith, room)) (p .wrote) (part-wrote after end (recordInBytes raw) w);
     }
 
-    pub finishes : i * 7 ≤ length words → length words < i * 7 + 7 → Wrote before at (bodyOf (recordsOf words)) after end
+    pub finishes : i * 7 ≤ length words → length words < i * 7 + 7 → Wrote before at (recordsInBytes (recordsOf words)) after end
     finishes l h =
         wrote-as (sym (append-nil (p .done)) ∙ ap (λ (b : List ℕ). p .done ++ b) (sym (body-end words i l h)) ∙ p .whole) (p .wrote)

@@ -14,17 +14,17 @@ use Rattle.raw_records.specs.declared.raw.RawRecord.{RawRecord}
 use Rattle.raw_records.specs.Raw.{recordsOf}
 use Rattle.raw_records.specs.Refusals.{first, firstOf, first-none, first-zero, recordsRefusal}
 use Rattle.fields.specs.Placed.{placed, Wrote}
-use Rattle.writer.specs.declared.walk.Written.{Written}
-use Rattle.writer.specs.declared.walk.Written.the-variants.{Count, Refused}
-use Rattle.writer.specs.File.{headerBytes, bodyOf, fileOf}
+use Rattle.writer.specs.declared.walk.Filing.{Filing}
+use Rattle.writer.specs.declared.walk.Filing.the-variants.{Written, Refused}
+use Rattle.writer.specs.File.{headerInBytes, recordsInBytes, fileOf}
 use Rattle.writer.specs.Progress.{Measures, header-long}
 
 -- the answer, and the buffer after it
 pub record WriteOutcome : Type 0 where
-  pub answer : Written
+  pub answer : Filing
   pub buffer : List ℕ
 
-abbrev pub writeOutcome : Written → List ℕ → WriteOutcome
+abbrev pub writeOutcome : Filing → List ℕ → WriteOutcome
 writeOutcome r buffer = record { answer = r; buffer = buffer }
 
 -- "file over 65,536 bytes"
@@ -46,7 +46,7 @@ writeRefusal n flags ls la raws places at =
 
 -- "puts a header and a list of records into bytes .. and gives back the count written"; "Refused, with every byte of the buffer kept"
 abbrev pub byRefusal : (refusal : ℕ) (buffer : List ℕ) (at : ℕ) (file : List ℕ) → WriteOutcome
-byRefusal zero buffer at file = writeOutcome (Count (length file)) (placed buffer at file)
+byRefusal zero buffer at file = writeOutcome (Written (length file)) (placed buffer at file)
 byRefusal (suc k) buffer at file = writeOutcome (Refused (suc k)) buffer
 
 unfoldable pub writeOf : (n flags ls la : ℕ) (words : List ℕ) (buffer : List ℕ) (at : ℕ) → WriteOutcome
@@ -65,9 +65,9 @@ module _ (places at bytes : ℕ) where
 -- ---- laws: the refusals, one after the other
 
 -- the file's length
-pub file-length : (n flags ls la : ℕ) (raws : List RawRecord) → length (fileOf n flags ls la raws) ≡ 13 + length (bodyOf raws)
+pub file-length : (n flags ls la : ℕ) (raws : List RawRecord) → length (fileOf n flags ls la raws) ≡ 13 + length (recordsInBytes raws)
 unfolding fileOf
-file-length n flags ls la raws = length-append (headerBytes n flags ls la) (bodyOf raws) ∙ ap (λ (k : ℕ). k + length (bodyOf raws)) (header-long n flags ls la)
+file-length n flags ls la raws = length-append (headerInBytes n flags ls la) (recordsInBytes raws) ∙ ap (λ (k : ℕ). k + length (recordsInBytes raws)) (header-long n flags ls la)
 
 in-order : (a b c d : ℕ) → first (first (first a b) c) d ≡ firstOf (a ∷ b ∷ c ∷ d ∷ [])
 in-order zero zero zero d = sym (first-none d)
@@ -87,17 +87,17 @@ long-decides bytes whole header raws places at m = on (ltb maxFile whole) refl
 
 module _ (n flags ls la : ℕ) (raws : List RawRecord) (places at : ℕ) where
   -- the code's refusal, from those of the functions that it calls
-  pub write-refusal-told : {bytes a b c d ab abc told : ℕ} → Measures bytes (13 + length (bodyOf raws)) → a ≡ lengthRefusal bytes → b ≡ headerRefusal n flags ls la
+  pub write-refusal-told : {bytes a b c d ab abc told : ℕ} → Measures bytes (13 + length (recordsInBytes raws)) → a ≡ lengthRefusal bytes → b ≡ headerRefusal n flags ls la
       → ab ≡ first a b → c ≡ recordsRefusal n raws → abc ≡ first ab c → d ≡ roomRefusal places at bytes → told ≡ first abc d
       → told ≡ writeRefusal n flags ls la raws places at
   unfolding writeRefusal
   write-refusal-told {bytes} m ea eb eab ec eabc ed e =
       rw (e, eabc, eab, ea, eb, ec, ed, file-length n flags ls la raws)
       (in-order (lengthRefusal bytes) (headerRefusal n flags ls la) (recordsRefusal n raws) (roomRefusal places at bytes)
-      ∙ long-decides bytes (13 + length (bodyOf raws)) (headerRefusal n flags ls la) (recordsRefusal n raws) places at m)
+      ∙ long-decides bytes (13 + length (recordsInBytes raws)) (headerRefusal n flags ls la) (recordsRefusal n raws) places at m)
 
 -- what a walk that was written has
-pub record Accepted (n flags ls la : ℕ) (raws : List RawRecord) (places at : ℕ) : Type 0 where
+pub record WalkPasses (n flags ls la : ℕ) (raws : List RawRecord) (places at : ℕ) : Type 0 where
   pub short : length (fileOf n flags ls la raws) ≤ maxFile
   pub header : headerFits n flags ls la ≡ true
   pub records : recordsRefusal n raws ≡ 0
@@ -111,9 +111,9 @@ picked-other : (t : Bool) (k : ℕ) → _≡_ {A = ℕ} (cond t (suc k) 0) 0 →
 picked-other true k e = absurd (omega arith)
 picked-other false k e = refl
 
-pub accepted : (n flags ls la : ℕ) (raws : List RawRecord) (places at : ℕ) → writeRefusal n flags ls la raws places at ≡ 0 → Accepted n flags ls la raws places at
+pub zero-passes : (n flags ls la : ℕ) (raws : List RawRecord) (places at : ℕ) → writeRefusal n flags ls la raws places at ≡ 0 → WalkPasses n flags ls la raws places at
 unfolding writeRefusal
-accepted n flags ls la raws places at e =
+zero-passes n flags ls la raws places at e =
     let bytes : ℕ = length (fileOf n flags ls la raws) in
     let p = first-zero (lengthRefusal bytes) (firstOf (headerRefusal n flags ls la ∷ recordsRefusal n raws ∷ roomRefusal places at bytes ∷ [])) e in
     let q = first-zero (headerRefusal n flags ls la) (firstOf (recordsRefusal n raws ∷ roomRefusal places at bytes ∷ [])) (p .1) in
@@ -133,15 +133,15 @@ module _ (n flags ls la : ℕ) (words buffer : List ℕ) (at : ℕ) where
   refused (suc k) e s = ap (λ (r : ℕ). byRefusal r buffer at (fileOf n flags ls la (recordsOf words))) e
 
   pub written : (k : ℕ) → k ≡ writeRefusal n flags ls la (recordsOf words) (length buffer) at → k ≡ 0 → {after : List ℕ} {end : ℕ}
-      → Wrote buffer at (fileOf n flags ls la (recordsOf words)) after end → writeOutcome (Count (end - at)) after ≡ writeOf n flags ls la words buffer at
+      → Wrote buffer at (fileOf n flags ls la (recordsOf words)) after end → writeOutcome (Written (end - at)) after ≡ writeOf n flags ls la words buffer at
   unfolding writeOf
   written k e z {after} {end} w =
-      ap (λ (j : ℕ). writeOutcome (Count j) after) (omega (arith, w .offset))
-      ∙ ap (writeOutcome (Count (length (fileOf n flags ls la (recordsOf words))))) (w .contents)
+      ap (λ (j : ℕ). writeOutcome (Written j) after) (omega (arith, w .offset))
+      ∙ ap (writeOutcome (Written (length (fileOf n flags ls la (recordsOf words))))) (w .contents)
       ∙ ap (λ (r : ℕ). byRefusal r buffer at (fileOf n flags ls la (recordsOf words))) (sym z ∙ e)
 
-pub accepts : (n flags ls la : ℕ) (raws : List RawRecord) (places at : ℕ) → Accepted n flags ls la raws places at → writeRefusal n flags ls la raws places at ≡ 0
+pub passes-zero : (n flags ls la : ℕ) (raws : List RawRecord) (places at : ℕ) → WalkPasses n flags ls la raws places at → writeRefusal n flags ls la raws places at ≡ 0
 unfolding writeRefusal
-accepts n flags ls la raws places at a =
+passes-zero n flags ls la raws places at a =
     let bytes : ℕ = length (fileOf n flags ls la raws) in
     rw (le-ltb maxFile bytes (a .short), a .header, a .records, le-leb (at + bytes) places (a .room))

@@ -7,7 +7,7 @@ ghost use Prim.Native.Nat.{_≤_};
 ghost use lib.ListN.{length};
 ghost use Rattle.fields.specs.Placed.{Wrote};
 ghost use Rattle.raw_records.specs.declared.raw.RawRecord.the-variants.{Term, Step};
-ghost use Rattle.writer.specs.File.{low, headerBytes, recordBytes};
+ghost use Rattle.writer.specs.File.{low, headerInBytes, recordInBytes};
 
 // The lowest byte.
 fn low(x: u32) -> u8
@@ -19,7 +19,7 @@ fn low(x: u32) -> u8
 // HD, n, flags, Ls, La.
 pub fn write_header(out: &mut [u8], n: u8, flags: u16, ls: u32, la: u32) -> usize
     requires { ⌜ 13 ≤ length (now out) ⌝ }
-    ensures { λ r. ⌜ Wrote (now (out .entry)) 0 (headerBytes n flags ls la) (now (out .exit)) r ⌝ }
+    ensures { λ r. ⌜ Wrote (now (out .entry)) 0 (headerInBytes n flags ls la) (now (out .exit)) r ⌝ }
 {
     let flags_low = flags as u32;
     let flags_high = flags_low / 256;
@@ -50,7 +50,7 @@ pub fn write_header(out: &mut [u8], n: u8, flags: u16, ls: u32, la: u32) -> usiz
 // TM, kind, L, R.
 fn write_term(out: &mut [u8], kind: u32, l: u32, r: u32) -> usize
     requires { ⌜ 7 ≤ length (now out) ⌝ }
-    ensures { λ x. ⌜ Wrote (now (out .entry)) 0 (recordBytes (Term kind l r)) (now (out .exit)) x ⌝ }
+    ensures { λ x. ⌜ Wrote (now (out .entry)) 0 (recordInBytes (Term kind l r)) (now (out .exit)) x ⌝ }
 {
     let l_high = l / 256;
     let r_high = r / 256;
@@ -69,7 +69,7 @@ fn write_term(out: &mut [u8], kind: u32, l: u32, r: u32) -> usize
 // ST, step, run, a, b, m, t.
 fn write_step(out: &mut [u8], step: u32, run: u32, a: u32, b: u32, m: u32, t: u32) -> usize
     requires { ⌜ 12 ≤ length (now out) ⌝ }
-    ensures { λ x. ⌜ Wrote (now (out .entry)) 0 (recordBytes (Step step run a b m t)) (now (out .exit)) x ⌝ }
+    ensures { λ x. ⌜ Wrote (now (out .entry)) 0 (recordInBytes (Step step run a b m t)) (now (out .exit)) x ⌝ }
 {
     let m_high = m / 256;
     let t_upper = t / 65536;
@@ -94,8 +94,8 @@ fn write_step(out: &mut [u8], step: u32, run: u32, a: u32, b: u32, m: u32, t: u3
 
 // A record; what is none has no bytes.
 pub fn write_record(out: &mut [u8], raw: RawRecord) -> usize
-    requires { ⌜ length (recordBytes raw) ≤ length (now out) ⌝ }
-    ensures { λ r. ⌜ Wrote (now (out .entry)) 0 (recordBytes raw) (now (out .exit)) r ⌝ }
+    requires { ⌜ length (recordInBytes raw) ≤ length (now out) ⌝ }
+    ensures { λ r. ⌜ Wrote (now (out .entry)) 0 (recordInBytes raw) (now (out .exit)) r ⌝ }
 {
     match raw {
         RawRecord::Term { kind, l, r } => write_term(out, kind, l, r),
@@ -112,8 +112,8 @@ pub fn write_record(out: &mut [u8], raw: RawRecord) -> usize
 }
 
 // How many bytes a record takes.
-pub fn record_bytes(raw: RawRecord) -> usize
-    ensures { λ r. ⌜ r ≡ length (recordBytes raw) ⌝ }
+pub fn record_width(raw: RawRecord) -> usize
+    ensures { λ r. ⌜ r ≡ length (recordInBytes raw) ⌝ }
 {
     match raw {
         RawRecord::Term {

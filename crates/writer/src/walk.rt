@@ -1,5 +1,5 @@
 // A whole walk: everything is looked at before the first byte is written, so that a refused call keeps the buffer.
-use super::record::record_bytes;
+use super::record::record_width;
 use super::record::write_header;
 use super::record::write_record;
 use raw_records::raw::RECORD_WORDS;
@@ -16,27 +16,27 @@ ghost use Prim.Native.Nat.{_+_, _≤_};
 ghost use lib.ListN.{length};
 ghost use Rattle.fields.specs.Placed.{Wrote};
 ghost use Rattle.raw_records.specs.Raw.{recordsOf};
-ghost use Rattle.writer.specs.File.{bodyOf, fileOf};
+ghost use Rattle.writer.specs.File.{recordsInBytes, fileOf};
 ghost use Rattle.writer.specs.Write.{lengthRefusal, headerRefusal, roomRefusal, writeOutcome, writeOf};
 ghost use Rattle.writer.specs.Progress.{Measures};
 
 pub const REFUSE_ROOM: u8 = 21;
 
-pub enum Written {
+pub enum Filing {
     // bytes from the offset on
-    Count(usize),
+    Written(usize),
     Refused(u8),
 }
 
 // How many bytes the file takes, or any number above its limit if it takes more.
 fn measure(words: &[u32]) -> usize
-    ensures { λ r. ⌜ Measures r (13 + length (bodyOf (recordsOf (now (words .entry))))) ⌝ }
+    ensures { λ r. ⌜ Measures r (13 + length (recordsInBytes (recordsOf (now (words .entry))))) ⌝ }
 {
     let count = words.len() / RECORD_WORDS;
     let mut bytes = HEADER_BYTES;
     let mut i: usize = 0;
     while i < count {
-        bytes += record_bytes(raw_at(words, i * RECORD_WORDS));
+        bytes += record_width(raw_at(words, i * RECORD_WORDS));
         if MAX_FILE < bytes {
             return bytes;
         }
@@ -77,8 +77,8 @@ fn room_refusal(places: usize, at: usize, bytes: usize) -> u8
 
 // The records, one after another; each is lent the buffer's part from where the one before it ended.
 fn write_records(out: &mut [u8], at: usize, words: &[u32]) -> usize
-    requires { ⌜ at + length (bodyOf (recordsOf (now words))) ≤ length (now out) ⌝ }
-    ensures { λ r. ⌜ Wrote (now (out .entry)) at (bodyOf (recordsOf (now (words .entry)))) (now (out .exit)) r ⌝ }
+    requires { ⌜ at + length (recordsInBytes (recordsOf (now words))) ≤ length (now out) ⌝ }
+    ensures { λ r. ⌜ Wrote (now (out .entry)) at (recordsInBytes (recordsOf (now (words .entry)))) (now (out .exit)) r ⌝ }
 {
     let count = words.len() / RECORD_WORDS;
     let mut end = at;
@@ -118,7 +118,7 @@ pub fn write_walk(
     words: &[u32],
     out: &mut [u8],
     at: usize,
-) -> Written
+) -> Filing
     ensures { λ r. ⌜ writeOutcome r (now (out .exit)) ≡ writeOf n flags ls la (now (words .entry)) (now (out .entry)) at ⌝ }
 {
     let bytes = measure(words);
@@ -128,8 +128,8 @@ pub fn write_walk(
     let by_room = room_refusal(out.len(), at, bytes);
     let refusal = first(first(first(by_length, by_header), by_record), by_room);
     if refusal != 0 {
-        return Written::Refused(refusal);
+        return Filing::Refused(refusal);
     }
     let end = write_file(out, at, n, flags, ls, la, words);
-    Written::Count(end - at)
+    Filing::Written(end - at)
 }

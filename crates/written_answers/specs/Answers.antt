@@ -20,7 +20,7 @@ use Rattle.realm.specs.Opening.{headerFits}
 use Rattle.realm.specs.Tables.{Tables}
 use Rattle.effects.specs.Apply.{Outcome, refuse}
 use Rattle.effects.specs.Call.{called, checked}
-use Rattle.raw_records.specs.Apart.{fieldsRefusal, present}
+use Rattle.raw_records.specs.Apart.{fieldsRefusal, walkHas}
 use Rattle.raw_records.specs.Calls.{rawFor}
 use Rattle.raw_records.specs.Promises.{fields-apart}
 use Rattle.raw_records.specs.Refusals.{first, ownRefusal}
@@ -32,7 +32,7 @@ use Rattle.written_answers.specs.Numbers.{ByFields, call-number, fields-
 -- a number that a record's own fields do not give: 6 for a run or a term that the tables have not or a key of another kind, or one
 -- of those that are looked at behind the fields, or 10 for the tables themselves
 abbrev pub LeftApart : Tables → Call → ℕ → Type 0
-LeftApart t c k = ((k ≡ 6) × (present (t .realm) (t .terms) c ≡ false)) ⊎ (10 ≤ k)
+LeftApart t c k = ((k ≡ 6) × (walkHas (t .realm) (t .terms) c ≡ false)) ⊎ (10 ≤ k)
 
 -- ---- laws
 
@@ -43,25 +43,25 @@ module _ (t : Tables) (few-runs : t .realm .runs ≤ 256) (few-terms : t .realm 
   abbrev of-fields : ℕ
   of-fields = fieldsRefusal (t .realm) (t .terms) c
 
-  split : of-fields ≡ first own (cond (present (t .realm) (t .terms) c) 0 6)
+  split : of-fields ≡ first own (cond (walkHas (t .realm) (t .terms) c) 0 6)
   split = fields-apart (t .realm) (t .terms) few-runs few-terms c sized
 
   -- where its own fields pass, the fields say what the tables lack
-  passing : own ≡ 0 → of-fields ≡ cond (present (t .realm) (t .terms) c) 0 6
-  passing z = split ∙ ap (λ (k : ℕ). first k (cond (present (t .realm) (t .terms) c) 0 6)) z
+  passing : own ≡ 0 → of-fields ≡ cond (walkHas (t .realm) (t .terms) c) 0 6
+  passing z = split ∙ ap (λ (k : ℕ). first k (cond (walkHas (t .realm) (t .terms) c) 0 6)) z
 
   apart-by : own ≡ 0 → {k : ℕ} → ByFields of-fields k → LeftApart t c k
   apart-by z (inr late) = inr (omega arith)
-  apart-by z {k} (inl (is, some)) = by (present (t .realm) (t .terms) c) refl
+  apart-by z {k} (inl (is, some)) = by (walkHas (t .realm) (t .terms) c) refl
     where
-      by : (b : Bool) → present (t .realm) (t .terms) c ≡ b → LeftApart t c k
+      by : (b : Bool) → walkHas (t .realm) (t .terms) c ≡ b → LeftApart t c k
       by true e = absurd (some (passing z ∙ ap (λ (b : Bool). cond b 0 6) e))
       by false e = inl (is ∙ passing z ∙ ap (λ (b : Bool). cond b 0 6) e, e)
 
   pub called-past : own ≡ 0 → {k : ℕ} → called t c .answer ≡ Refused k → LeftApart t c k
   called-past z e = apart-by z (call-number t c e)
 
-  pub called-absent : own ≡ 0 → present (t .realm) (t .terms) c ≡ false → called t c ≡ refuse t 6
+  pub called-absent : own ≡ 0 → walkHas (t .realm) (t .terms) c ≡ false → called t c ≡ refuse t 6
   called-absent z e =
       let is : of-fields ≡ 6 = passing z ∙ ap (λ (b : Bool). cond b 0 6) e in
       fields-told t c (λ n. omega arith) ∙ ap (refuse t) is

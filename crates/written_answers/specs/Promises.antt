@@ -1,6 +1,6 @@
 -- "It writes only what the reader takes past 1 to 6 on its own fields (what depends on the walk's runs and terms apart)" (document 02,
 -- change 1), of the public call and of a walk that was written. What depends on the walk is `present` of `raw_records`: a run and a
--- term that are used are present, and a lock's key is a key. Answers and Walks have the two definitions.
+-- term that are used are walkHas, and a lock's key is a key. Answers and Walks have the two definitions.
 -- Assumes nothing.
 use mathlib.Core.Path.{_≡_, refl, sym, _∙_}
 use mathlib.Core.Bool.{false}
@@ -16,13 +16,13 @@ use Rattle.realm.specs.Opening.{newRealm, openingOf, opened}
 use Rattle.realm.specs.Promises.{new-together}
 use Rattle.realm.specs.Tables.{Tables, Together}
 use Rattle.effects.specs.Apply.{refuse}
-use Rattle.raw_records.specs.Apart.{present}
-use Rattle.raw_records.specs.Calls.{callsOf, rawFor}
-use Rattle.raw_records.specs.Fit.{Words}
+use Rattle.raw_records.specs.Apart.{walkHas}
+use Rattle.raw_records.specs.Calls.{callsFrom, rawFor}
+use Rattle.raw_records.specs.Fit.{Words32}
 use Rattle.raw_records.specs.Promises.{records-fit}
 use Rattle.raw_records.specs.Raw.{recordsOf}
 use Rattle.raw_records.specs.Refusals.{ownRefusal}
-use Rattle.writer.specs.declared.walk.Written.the-variants.{Count}
+use Rattle.writer.specs.declared.walk.Filing.the-variants.{Written}
 use Rattle.writer.specs.Write.{writeOutcome, writeOf}
 use Rattle.written_walks.specs.Promises.{written-passes}
 use Rattle.walkfile.specs.Listing.{newTables}
@@ -41,7 +41,7 @@ public-past t c sized z e = lent-past t c sized z e
 
 module _ (t : Tables) (w : Together t) (c : Call) (sized : Sized c) where
   -- With 6 it is refused for all that depends on the walk,
-  pub public-absent : ownRefusal (t .realm .n) (rawFor c) ≡ 0 → present (t .realm) (t .terms) c ≡ false → lentCall t c ≡ refuse t 6
+  pub public-absent : ownRefusal (t .realm .n) (rawFor c) ≡ 0 → walkHas (t .realm) (t .terms) c ≡ false → lentCall t c ≡ refuse t 6
   public-absent z e = lent-called t c w ∙ called-absent t (omega (arith, w .rows-hold .room)) (omega (arith, w .terms-hold .room)) c sized z e
 
   -- and a record that the writer turns away is refused with the same number.
@@ -50,8 +50,8 @@ module _ (t : Tables) (w : Together t) (c : Call) (sized : Sized c) where
 
 -- ---- a walk that was written
 
-module _ (n flags ls la : ℕ) (n-fits : n < 2 ^ 8) (ls-fits : ls < 2 ^ 32) (la-fits : la < 2 ^ 32) (words : List ℕ) (w : Words words)
-    (buffer : List ℕ) (at count : ℕ) (after : List ℕ) (e : writeOf n flags ls la words buffer at ≡ writeOutcome (Count count) after) where
+module _ (n flags ls la : ℕ) (n-fits : n < 2 ^ 8) (ls-fits : ls < 2 ^ 32) (la-fits : la < 2 ^ 32) (words : List ℕ) (w : Words32 words)
+    (buffer : List ℕ) (at count : ℕ) (after : List ℕ) (e : writeOf n flags ls la words buffer at ≡ writeOutcome (Written count) after) where
   abbrev realm : Realm
   realm = newRealm n flags ls la
 
@@ -60,7 +60,7 @@ module _ (n flags ls la : ℕ) (n-fits : n < 2 ^ 8) (ls-fits : ls < 2 ^ 32) (la-
   walk-opens = sym (opened n flags ls la (written-passes n flags ls la words buffer at count after e .header))
 
   -- and none of its records, which are read to the end of the file (`read-back` of `written_walks`), is refused for its own fields.
-  pub walk-taken : TakenPast (newTables realm) (callsOf (recordsOf words))
+  pub walk-taken : TakenPast (newTables realm) (callsFrom (recordsOf words))
   unfolding newTables
   walk-taken =
       let p = written-passes n flags ls la words buffer at count after e in

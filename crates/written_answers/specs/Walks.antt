@@ -17,7 +17,7 @@ use Rattle.effects.specs.Call.{byVerdict, stepped, called}
 use Rattle.simulation.specs.Kept.{call-kept}
 use Rattle.raw_records.specs.declared.raw.RawRecord.{RawRecord}
 use Rattle.raw_records.specs.declared.raw.RawRecord.the-variants.{Term, Step, Unknown}
-use Rattle.raw_records.specs.Calls.{callsOf, rawFor, AllFit}
+use Rattle.raw_records.specs.Calls.{callsFrom, rawFor, AllRawSized}
 use Rattle.raw_records.specs.Refusals.{first-zero, ownRefusal, recordsRefusal}
 use Rattle.written_answers.specs.Answers.{LeftApart, called-past}
 
@@ -47,16 +47,16 @@ module _ (n : ℕ) where
   one-more t w e c sized z cs rest =
       (λ k q. called-past t (omega (arith, w .rows-hold .room)) (omega (arith, w .terms-hold .room)) c sized (ap (λ (m : ℕ). ownRefusal m (rawFor c)) e ∙ z) q, rest)
 
-  pub taken-past : (raws : List RawRecord) → AllFit raws → recordsRefusal n raws ≡ 0 → (t : Tables) → Together t → t .realm .n ≡ n → TakenPast t (callsOf raws)
+  pub taken-past : (raws : List RawRecord) → AllRawSized raws → recordsRefusal n raws ≡ 0 → (t : Tables) → Together t → t .realm .n ≡ n → TakenPast t (callsFrom raws)
   taken-past [] f z t w e = tt
   taken-past (Term kind l r ∷ raws) f z t w e =
       let c = calls.Term kind l r in
       let p = first-zero (ownRefusal n (Term kind l r)) (recordsRefusal n raws) z in
-      one-more t w e c (f .0) (p .0) (callsOf raws)
+      one-more t w e c (f .0) (p .0) (callsFrom raws)
       (taken-past raws (f .1) (p .1) (called t c .tables) (call-kept t c (f .0) w) (n-kept t c ∙ e))
   taken-past (Step step run a b m time ∷ raws) f z t w e =
       let c = calls.Step step run a b m time in
       let p = first-zero (ownRefusal n (Step step run a b m time)) (recordsRefusal n raws) z in
-      one-more t w e c (f .0) (p .0) (callsOf raws)
+      one-more t w e c (f .0) (p .0) (callsFrom raws)
       (taken-past raws (f .1) (p .1) (called t c .tables) (call-kept t c (f .0) w) (n-kept t c ∙ e))
   taken-past (Unknown ∷ raws) f z t w e = absurd (f .0)

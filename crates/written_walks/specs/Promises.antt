@@ -11,45 +11,45 @@ use lib.ListN.{length, take, drop}
 use Rattle.exchange.specs.declared.call.Call.{Call}
 use Rattle.realm.specs.Opening.{headerFits}
 use Rattle.records.specs.Fields.{Bytes}
-use Rattle.raw_records.specs.Calls.{callsOf, rawFor, wordsOf}
-use Rattle.raw_records.specs.Fit.{Words, records-fit}
+use Rattle.raw_records.specs.Calls.{callsFrom, rawFor, wordsFor}
+use Rattle.raw_records.specs.Fit.{Words32, records-fit}
 use Rattle.raw_records.specs.Raw.{recordsOf}
 use Rattle.raw_records.specs.Refusals.{recordsRefusal}
 use Rattle.fields.specs.Placed.{placed}
-use Rattle.writer.specs.declared.walk.Written.the-variants.{Count, Refused}
-use Rattle.writer.specs.Write.{writeOutcome, writeOf, Accepted}
+use Rattle.writer.specs.declared.walk.Filing.the-variants.{Written, Refused}
+use Rattle.writer.specs.Write.{writeOutcome, writeOf, WalkPasses}
 use Rattle.written_walks.specs.ReadBack.{ReadsAs, file-back, written-again}
-use Rattle.written_walks.specs.Written as written
-use Rattle.written_walks.specs.Written.{Done, done, file-at, before-kept, behind-kept}
+use Rattle.written_walks.specs.Stands as stands
+use Rattle.written_walks.specs.Stands.{WalkStands, walk-stands, file-at, before-kept, behind-kept}
 
 -- ---- a walk that was refused
 
 -- "Refused, with every byte of the buffer kept"
 pub refused-kept : (n flags ls la : ℕ) (words buffer : List ℕ) (at number : ℕ) (after : List ℕ)
     → writeOf n flags ls la words buffer at ≡ writeOutcome (Refused number) after → after ≡ buffer
-refused-kept n flags ls la words buffer at number after e = written.refused-kept n flags ls la words buffer at number after e
+refused-kept n flags ls la words buffer at number after e = stands.refused-kept n flags ls la words buffer at number after e
 
 -- ---- a walk that was written
 
-module _ (n flags ls la : ℕ) (words buffer : List ℕ) (at count : ℕ) (after : List ℕ) (e : writeOf n flags ls la words buffer at ≡ writeOutcome (Count count) after) where
-  is-done : Done n flags ls la words buffer at count after
-  is-done = done n flags ls la words buffer at count after e
+module _ (n flags ls la : ℕ) (words buffer : List ℕ) (at count : ℕ) (after : List ℕ) (e : writeOf n flags ls la words buffer at ≡ writeOutcome (Written count) after) where
+  it-stands : WalkStands n flags ls la words buffer at count after
+  it-stands = walk-stands n flags ls la words buffer at count after e
 
   -- "It writes only what the reader takes past 1 to 6 on its own fields": the file is short enough, its header passes 2, and its
   -- records pass by their own fields.
-  pub written-passes : Accepted n flags ls la (recordsOf words) (length buffer) at
-  written-passes = is-done .passed
+  pub written-passes : WalkPasses n flags ls la (recordsOf words) (length buffer) at
+  written-passes = it-stands .passed
 
   -- "What it wrote is read back as the same records": the bytes at the offset, as many as were counted, are a file of this header
   -- and these records, to its end.
-  pub read-back : n < 2 ^ 8 → flags < 2 ^ 16 → ls < 2 ^ 32 → la < 2 ^ 32 → Words words → ReadsAs (take count (drop at after)) n flags ls la (callsOf (recordsOf words))
+  pub read-back : n < 2 ^ 8 → flags < 2 ^ 16 → ls < 2 ^ 32 → la < 2 ^ 32 → Words32 words → ReadsAs (take count (drop at after)) n flags ls la (callsFrom (recordsOf words))
   read-back hn hf hs ha w =
-      subst (λ (bytes : List ℕ). ReadsAs bytes n flags ls la (callsOf (recordsOf words))) (sym (file-at n flags ls la words buffer at count after is-done))
+      subst (λ (bytes : List ℕ). ReadsAs bytes n flags ls la (callsFrom (recordsOf words))) (sym (file-at n flags ls la words buffer at count after it-stands))
       (file-back n flags ls la (recordsOf words) hf hs ha (written-passes .short) (records-fit n hn words w (written-passes .records)))
 
   -- "All other bytes of the buffer keep their values."
   pub others-kept : (take at after ≡ take at buffer) × (drop (at + count) after ≡ drop (at + count) buffer)
-  others-kept = (before-kept n flags ls la words buffer at count after is-done, behind-kept n flags ls la words buffer at count after is-done)
+  others-kept = (before-kept n flags ls la words buffer at count after it-stands, behind-kept n flags ls la words buffer at count after it-stands)
 
 -- ---- a file that was read
 
@@ -57,5 +57,5 @@ module _ (n flags ls la : ℕ) (words buffer : List ℕ) (at count : ℕ) (after
 -- by their own fields
 pub write-back : (bytes : List ℕ) → Bytes bytes → (n flags ls la : ℕ) (calls : List Call) → ReadsAs bytes n flags ls la calls
     → headerFits n flags ls la ≡ true → recordsRefusal n (map rawFor calls) ≡ 0 → (buffer : List ℕ) (at : ℕ) → at + length bytes ≤ length buffer
-    → writeOf n flags ls la (wordsOf calls) buffer at ≡ writeOutcome (Count (length bytes)) (placed buffer at bytes)
+    → writeOf n flags ls la (wordsFor calls) buffer at ≡ writeOutcome (Written (length bytes)) (placed buffer at bytes)
 write-back bytes b n flags ls la calls r fits own buffer at room = written-again bytes b n flags ls la calls r buffer at fits own room

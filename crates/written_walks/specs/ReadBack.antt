@@ -21,12 +21,12 @@ use Rattle.records.specs.Calls.{Calls, ended, broken, then, onward, calls-are, 
 use Rattle.records.specs.Calls as reading
 use Rattle.raw_records.specs.declared.raw.RawRecord.{RawRecord}
 use Rattle.raw_records.specs.declared.raw.RawRecord.the-variants.{Term, Step, Unknown}
-use Rattle.raw_records.specs.Calls.{callsOf, rawFor, wordsOf, Fits, AllFit, records-for}
+use Rattle.raw_records.specs.Calls.{callsFrom, rawFor, wordsFor, RawSized, AllRawSized, records-for}
 use Rattle.raw_records.specs.Refusals.{recordsRefusal}
 use Rattle.fields.specs.Placed.{placed}
-use Rattle.writer.specs.File.{low, high, bytes16, bytes32, headerBytes, recordBytes, bodyOf, fileOf}
-use Rattle.writer.specs.Write.{writeOutcome, byRefusal, writeRefusal, writeOf, Accepted, accepts}
-use Rattle.writer.specs.declared.walk.Written.the-variants.{Count}
+use Rattle.writer.specs.File.{low, high, bytes16, bytes32, headerInBytes, recordInBytes, recordsInBytes, fileOf}
+use Rattle.writer.specs.Write.{writeOutcome, byRefusal, writeRefusal, writeOf, WalkPasses, passes-zero}
+use Rattle.writer.specs.declared.walk.Filing.the-variants.{Written}
 
 -- ---- definitions
 
@@ -58,33 +58,33 @@ begins-here mark width bytes h e = sym (begins-by mark width bytes h refl) ∙ e
 begins-other : (mark width : ℕ) (bytes : List ℕ) → width ≤ length bytes → (number16 bytes 0 ≡ mark → ⊥) → begins mark width bytes ≡ false
 begins-other mark width bytes h e = sym (begins-by mark width bytes h refl) ∙ ne-eqb (number16 bytes 0) mark e
 
-term-back : (kind l r : ℕ) (rest : List ℕ) → Fits (Term kind l r)
-    → reading.callsOf (recordBytes (Term kind l r) ++ rest) ≡ then (call.Term kind l r) (reading.callsOf rest)
-unfolding recordBytes
+term-back : (kind l r : ℕ) (rest : List ℕ) → RawSized (Term kind l r)
+    → reading.callsOf (recordInBytes (Term kind l r) ++ rest) ≡ then (call.Term kind l r) (reading.callsOf rest)
+unfolding recordInBytes
 term-back kind l r rest f =
-    let bytes : List ℕ = recordBytes (Term kind l r) ++ rest in
+    let bytes : List ℕ = recordInBytes (Term kind l r) ++ rest in
     first-call bytes (call.Term kind l r) 7
     (front-term bytes (omega arith) (begins-here termMark 7 bytes (omega arith) refl) (rw (back8 kind (f .0), back16 l (f .1), back16 r (f .2))))
 
-step-back : (step run a b m t : ℕ) (rest : List ℕ) → Fits (Step step run a b m t)
-    → reading.callsOf (recordBytes (Step step run a b m t) ++ rest) ≡ then (call.Step step run a b m t) (reading.callsOf rest)
-unfolding recordBytes
+step-back : (step run a b m t : ℕ) (rest : List ℕ) → RawSized (Step step run a b m t)
+    → reading.callsOf (recordInBytes (Step step run a b m t) ++ rest) ≡ then (call.Step step run a b m t) (reading.callsOf rest)
+unfolding recordInBytes
 step-back step run a b m t rest f =
-    let bytes : List ℕ = recordBytes (Step step run a b m t) ++ rest in
+    let bytes : List ℕ = recordInBytes (Step step run a b m t) ++ rest in
     first-call bytes (call.Step step run a b m t) 12
     (front-step bytes (omega arith) (begins-other termMark 7 bytes (omega arith) (λ z. omega arith)) (begins-here stepMark 12 bytes (omega arith) refl)
     (rw (back8 step (f .0), back8 run (f .1), back8 a (f .2), back8 b (f .3), back16 m (f .4), back32 t (f .5))))
 
-body-back : (raws : List RawRecord) → AllFit raws → reading.callsOf (bodyOf raws) ≡ record { calls = callsOf raws; ending = ended }
+body-back : (raws : List RawRecord) → AllRawSized raws → reading.callsOf (recordsInBytes raws) ≡ record { calls = callsFrom raws; ending = ended }
 body-back [] f = calls-end [] 0 (omega arith)
-body-back (Term kind l r ∷ raws) f = term-back kind l r (bodyOf raws) (f .0) ∙ ap (then (call.Term kind l r)) (body-back raws (f .1))
-body-back (Step step run a b m t ∷ raws) f = step-back step run a b m t (bodyOf raws) (f .0) ∙ ap (then (call.Step step run a b m t)) (body-back raws (f .1))
+body-back (Term kind l r ∷ raws) f = term-back kind l r (recordsInBytes raws) (f .0) ∙ ap (then (call.Term kind l r)) (body-back raws (f .1))
+body-back (Step step run a b m t ∷ raws) f = step-back step run a b m t (recordsInBytes raws) (f .0) ∙ ap (then (call.Step step run a b m t)) (body-back raws (f .1))
 body-back (Unknown ∷ raws) f = absurd (f .0)
 
 module _ (n flags ls la : ℕ) (raws : List RawRecord) where
   header-back : flags < 2 ^ 16 → ls < 2 ^ 32 → la < 2 ^ 32 → length (fileOf n flags ls la raws) ≤ maxFile
       → headerOf (fileOf n flags ls la raws) ≡ header.Read n flags ls la
-  unfolding fileOf headerBytes
+  unfolding fileOf headerInBytes
   header-back hf hs ha short =
       let bytes : List ℕ = fileOf n flags ls la raws in
       sym (headers.header-read bytes short (begins-here headerMark 13 bytes (omega arith) refl))
@@ -93,12 +93,12 @@ module _ (n flags ls la : ℕ) (raws : List RawRecord) where
       fields : (x : ℕ) {y z w y′ z′ w′ : ℕ} → y ≡ y′ → z ≡ z′ → w ≡ w′ → header.Read x y z w ≡ header.Read x y′ z′ w′
       fields x p q r = rw (p, q, r)
 
-  calls-back : AllFit raws → reading.callsOf (drop headers.headerBytes (fileOf n flags ls la raws)) ≡ record { calls = callsOf raws; ending = ended }
-  unfolding fileOf headerBytes
+  calls-back : AllRawSized raws → reading.callsOf (drop headers.headerBytes (fileOf n flags ls la raws)) ≡ record { calls = callsFrom raws; ending = ended }
+  unfolding fileOf headerInBytes
   calls-back f = body-back raws f
 
-  pub file-back : flags < 2 ^ 16 → ls < 2 ^ 32 → la < 2 ^ 32 → length (fileOf n flags ls la raws) ≤ maxFile → AllFit raws
-      → ReadsAs (fileOf n flags ls la raws) n flags ls la (callsOf raws)
+  pub file-back : flags < 2 ^ 16 → ls < 2 ^ 32 → la < 2 ^ 32 → length (fileOf n flags ls la raws) ≤ maxFile → AllRawSized raws
+      → ReadsAs (fileOf n flags ls la raws) n flags ls la (callsFrom raws)
   file-back hf hs ha short f = record { header = header-back hf hs ha short; records = calls-back f }
 
 -- ---- written back
@@ -175,8 +175,8 @@ module _ (bytes : List ℕ) (b : Bytes bytes) where
   field8 : (at : ℕ) → low (byte bytes at) ≡ byte bytes at
   field8 at = back8 (byte bytes at) (small at)
 
-  term-again : begins termMark termBytes bytes ≡ true → recordBytes (rawFor (termCall bytes)) ++ drop termBytes bytes ≡ bytes
-  unfolding recordBytes
+  term-again : begins termMark termBytes bytes ≡ true → recordInBytes (rawFor (termCall bytes)) ++ drop termBytes bytes ≡ bytes
+  unfolding recordInBytes
   term-again h =
       ap (λ (front : List ℕ). front ++ drop 7 bytes) (parts (mark-back termMark 7 h) (field8 2) (field16 3) (field16 5))
       ∙ spanned bytes 0 7 (begins-whole termMark 7 bytes h)
@@ -184,8 +184,8 @@ module _ (bytes : List ℕ) (b : Bytes bytes) where
       parts : {m m′ l l′ r r′ : List ℕ} {k k′ : ℕ} → m ≡ m′ → k ≡ k′ → l ≡ l′ → r ≡ r′ → m ++ k ∷ l ++ r ≡ m′ ++ k′ ∷ l′ ++ r′
       parts p q r s = rw (p, q, r, s)
 
-  step-again : begins stepMark stepBytes bytes ≡ true → recordBytes (rawFor (stepCall bytes)) ++ drop stepBytes bytes ≡ bytes
-  unfolding recordBytes
+  step-again : begins stepMark stepBytes bytes ≡ true → recordInBytes (rawFor (stepCall bytes)) ++ drop stepBytes bytes ≡ bytes
+  unfolding recordInBytes
   step-again h =
       ap (λ (front : List ℕ). front ++ drop 12 bytes) (parts (mark-back stepMark 12 h) (field8 2) (field8 3) (field8 4) (field8 5) (field16 6) (field32 8))
       ∙ spanned bytes 0 12 (begins-whole stepMark 12 bytes h)
@@ -195,8 +195,8 @@ module _ (bytes : List ℕ) (b : Bytes bytes) where
       parts p q r s t u v = rw (p, q, r, s, t, u, v)
 
   header-again : begins headerMark headers.headerBytes bytes ≡ true
-      → headerBytes (byte bytes 2) (number16 bytes 3) (number32 bytes 5) (number32 bytes 9) ++ drop headers.headerBytes bytes ≡ bytes
-  unfolding headerBytes
+      → headerInBytes (byte bytes 2) (number16 bytes 3) (number32 bytes 5) (number32 bytes 9) ++ drop headers.headerBytes bytes ≡ bytes
+  unfolding headerInBytes
   header-again h =
       ap (λ (front : List ℕ). front ++ drop 13 bytes) (parts (byte bytes 2) (mark-back headerMark 13 h) (field16 3) (field32 5) (field32 9))
       ∙ spanned bytes 0 13 (begins-whole headerMark 13 bytes h)
@@ -206,8 +206,8 @@ module _ (bytes : List ℕ) (b : Bytes bytes) where
 
 -- a file that was read to its end is the bytes of its records
 again-within : (fuel : ℕ) (bytes : List ℕ) → length bytes ≤ fuel → Bytes bytes → reading.callsOf bytes .ending ≡ ended
-    → bodyOf (map rawFor (reading.callsOf bytes .calls)) ≡ bytes
-again-within zero [] h b e = ap (λ (cs : Calls). bodyOf (map rawFor (cs .calls))) (calls-end [] 0 (omega arith))
+    → recordsInBytes (map rawFor (reading.callsOf bytes .calls)) ≡ bytes
+again-within zero [] h b e = ap (λ (cs : Calls). recordsInBytes (map rawFor (cs .calls))) (calls-end [] 0 (omega arith))
 again-within zero (x ∷ xs) h b e = absurd (omega arith)
 again-within (suc fuel) bytes h b e = by-front (frontOf bytes) (front-finds bytes) (calls-are bytes) (again-within fuel)
   where
@@ -216,19 +216,19 @@ again-within (suc fuel) bytes h b e = by-front (frontOf bytes) (front-finds byte
     empty (x ∷ xs) z = absurd (omega arith)
 
     on : (c : Call) (width : ℕ) → 0 < width → width ≤ length bytes → reading.callsOf bytes ≡ then c (reading.callsOf (drop width bytes))
-        → recordBytes (rawFor c) ++ drop width bytes ≡ bytes
-        → ((later : List ℕ) → length later ≤ fuel → Bytes later → reading.callsOf later .ending ≡ ended → bodyOf (map rawFor (reading.callsOf later .calls)) ≡ later)
-        → bodyOf (map rawFor (reading.callsOf bytes .calls)) ≡ bytes
+        → recordInBytes (rawFor c) ++ drop width bytes ≡ bytes
+        → ((later : List ℕ) → length later ≤ fuel → Bytes later → reading.callsOf later .ending ≡ ended → recordsInBytes (map rawFor (reading.callsOf later .calls)) ≡ later)
+        → recordsInBytes (map rawFor (reading.callsOf bytes .calls)) ≡ bytes
     on c width some fits s again next =
-        ap (λ (cs : Calls). bodyOf (map rawFor (cs .calls))) s
-        ∙ ap (λ (rest : List ℕ). recordBytes (rawFor c) ++ rest)
+        ap (λ (cs : Calls). recordsInBytes (map rawFor (cs .calls))) s
+        ∙ ap (λ (rest : List ℕ). recordInBytes (rawFor c) ++ rest)
         (next (drop width bytes) (omega (arith, length-drop width bytes)) (drop-bytes b width) (sym (ap (λ (cs : Calls). cs .ending) s) ∙ e))
         ∙ again
 
     by-front : (f : Front) → Finds bytes f → reading.callsOf bytes ≡ onward f (λ width. reading.callsOf (drop width bytes))
-        → ((later : List ℕ) → length later ≤ fuel → Bytes later → reading.callsOf later .ending ≡ ended → bodyOf (map rawFor (reading.callsOf later .calls)) ≡ later)
-        → bodyOf (map rawFor (reading.callsOf bytes .calls)) ≡ bytes
-    by-front f (at-end z) s next = ap (λ (cs : Calls). bodyOf (map rawFor (cs .calls))) s ∙ empty bytes z
+        → ((later : List ℕ) → length later ≤ fuel → Bytes later → reading.callsOf later .ending ≡ ended → recordsInBytes (map rawFor (reading.callsOf later .calls)) ≡ later)
+        → recordsInBytes (map rawFor (reading.callsOf bytes .calls)) ≡ bytes
+    by-front f (at-end z) s next = ap (λ (cs : Calls). recordsInBytes (map rawFor (cs .calls))) s ∙ empty bytes z
     by-front f (at-term t) s next = on (termCall bytes) termBytes (omega arith) (begins-whole termMark termBytes bytes t) s (term-again bytes b t) next
     by-front f (at-step t) s next = on (stepCall bytes) stepBytes (omega arith) (begins-whole stepMark stepBytes bytes t) s (step-again bytes b t) next
     by-front f (at-fault l t u) s next = not-ended (sym (ap (λ (cs : Calls). cs .ending) s) ∙ e)
@@ -236,12 +236,12 @@ again-within (suc fuel) bytes h b e = by-front (frontOf bytes) (front-finds byte
         not-ended : {A : Type 0} → broken ≡ ended → A
         not-ended q = let z : _≡_ {A = ℕ} 0 1 = cc in absurd (omega arith)
 
-body-again : (bytes : List ℕ) → Bytes bytes → reading.callsOf bytes .ending ≡ ended → bodyOf (map rawFor (reading.callsOf bytes .calls)) ≡ bytes
+body-again : (bytes : List ℕ) → Bytes bytes → reading.callsOf bytes .ending ≡ ended → recordsInBytes (map rawFor (reading.callsOf bytes .calls)) ≡ bytes
 body-again bytes b e = again-within (length bytes) bytes (omega arith) b e
 
 -- so is a whole file
 module _ (bytes : List ℕ) (b : Bytes bytes) (n flags ls la : ℕ) where
-  found-again : (h : Header) → headers.Finds bytes h → h ≡ header.Read n flags ls la → headerBytes n flags ls la ++ drop headers.headerBytes bytes ≡ bytes
+  found-again : (h : Header) → headers.Finds bytes h → h ≡ header.Read n flags ls la → headerInBytes n flags ls la ++ drop headers.headerBytes bytes ≡ bytes
   found-again h (headers.too-long l) e = let z : _≡_ {A = ℕ} 0 1 = cc in absurd (omega arith)
   found-again h (headers.no-header s m) e = let z : _≡_ {A = ℕ} 0 1 = cc in absurd (omega arith)
   found-again h (headers.a-header s m) e =
@@ -252,29 +252,29 @@ module _ (bytes : List ℕ) (b : Bytes bytes) (n flags ls la : ℕ) where
       fields (sym en) (sym ef) (sym es) (sym ea) ∙ header-again bytes b m
     where
       fields : {x y z w x′ y′ z′ w′ : ℕ} → x ≡ x′ → y ≡ y′ → z ≡ z′ → w ≡ w′
-          → headerBytes x y z w ++ drop headers.headerBytes bytes ≡ headerBytes x′ y′ z′ w′ ++ drop headers.headerBytes bytes
+          → headerInBytes x y z w ++ drop headers.headerBytes bytes ≡ headerInBytes x′ y′ z′ w′ ++ drop headers.headerBytes bytes
       fields p q r s = rw (p, q, r, s)
 
   pub file-again : {calls : List Call} → ReadsAs bytes n flags ls la calls → fileOf n flags ls la (map rawFor calls) ≡ bytes
   unfolding fileOf
   file-again r =
       let rest : List ℕ = drop headers.headerBytes bytes in
-      ap (λ (cs : Calls). headerBytes n flags ls la ++ bodyOf (map rawFor (cs .calls))) (sym (r .records))
-      ∙ ap (λ (body : List ℕ). headerBytes n flags ls la ++ body) (body-again rest (drop-bytes b headers.headerBytes) (ap (λ (cs : Calls). cs .ending) (r .records)))
+      ap (λ (cs : Calls). headerInBytes n flags ls la ++ recordsInBytes (map rawFor (cs .calls))) (sym (r .records))
+      ∙ ap (λ (body : List ℕ). headerInBytes n flags ls la ++ body) (body-again rest (drop-bytes b headers.headerBytes) (ap (λ (cs : Calls). cs .ending) (r .records)))
       ∙ found-again (headerOf bytes) (headers.header-finds bytes) (r .header)
 
 -- and the writer puts it there again
 module _ (bytes : List ℕ) (b : Bytes bytes) (n flags ls la : ℕ) (calls : List Call) (r : ReadsAs bytes n flags ls la calls) (buffer : List ℕ) (at : ℕ) where
   passes : headerFits n flags ls la ≡ true → recordsRefusal n (map rawFor calls) ≡ 0 → at + length bytes ≤ length buffer
-      → Accepted n flags ls la (map rawFor calls) (length buffer) at
+      → WalkPasses n flags ls la (map rawFor calls) (length buffer) at
   passes fits own room =
       let is = file-again bytes b n flags ls la r in
       record { short = rw is (headers.header-fields bytes n flags ls la (r .header) .most); header = fits; records = own; room = rw is room }
 
   pub written-again : headerFits n flags ls la ≡ true → recordsRefusal n (map rawFor calls) ≡ 0 → at + length bytes ≤ length buffer
-      → writeOf n flags ls la (wordsOf calls) buffer at ≡ writeOutcome (Count (length bytes)) (placed buffer at bytes)
+      → writeOf n flags ls la (wordsFor calls) buffer at ≡ writeOutcome (Written (length bytes)) (placed buffer at bytes)
   unfolding writeOf
   written-again fits own room =
       ap (λ (raws : List RawRecord). byRefusal (writeRefusal n flags ls la raws (length buffer) at) buffer at (fileOf n flags ls la raws)) (records-for calls)
-      ∙ ap (λ (k : ℕ). byRefusal k buffer at (fileOf n flags ls la (map rawFor calls))) (accepts n flags ls la (map rawFor calls) (length buffer) at (passes fits own room))
-      ∙ ap (λ (file : List ℕ). writeOutcome (Count (length file)) (placed buffer at file)) (file-again bytes b n flags ls la r)
+      ∙ ap (λ (k : ℕ). byRefusal k buffer at (fileOf n flags ls la (map rawFor calls))) (passes-zero n flags ls la (map rawFor calls) (length buffer) at (passes fits own room))
+      ∙ ap (λ (file : List ℕ). writeOutcome (Written (length file)) (placed buffer at file)) (file-again bytes b n flags ls la r)

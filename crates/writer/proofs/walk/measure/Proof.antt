@@ -7,13 +7,13 @@ use lib.ListN.{length}
 use borrow.Author.Needs.{needs}
 use Rattle.raw_records.specs.Raw.{recordsOf}
 use Rattle.raw_records.specs.Passing.{recordsFrom}
-use Rattle.writer.specs.File.{bodyOf}
+use Rattle.writer.specs.File.{recordsInBytes}
 use Rattle.writer.specs.Progress.{record-short, length-next, body-end, measured-above, measured-end}
 use Rattle.writer.proofs.walk.measure.Statement.{statement}
 use Rattle.writer.proofs.walk.measure.Tie as tie
 
 abbrev Inv-loop : tie.InvT-loop
-Inv-loop words count bytes₀ i₀ bytes i = (i ≤ count) × (bytes ≤ 65536) × (bytes + length (bodyOf (recordsFrom words i)) ≡ 13 + length (bodyOf (recordsOf words)))
+Inv-loop words count bytes₀ i₀ bytes i = (i ≤ count) × (bytes ≤ 65536) × (bytes + length (recordsInBytes (recordsFrom words i)) ≡ 13 + length (recordsInBytes (recordsOf words)))
 
 abbrev μ-loop : tie.MeasureT-loop
 μ-loop words count bytes₀ i₀ bytes i = count - i
@@ -22,14 +22,14 @@ loop-holds : tie.Need-loop-holds Inv-loop μ-loop
 loop-holds c = (search needs, search needs, refl)
 
 add-bytes : tie.Need-add-bytes Inv-loop μ-loop
-add-bytes c = let h = record-short (c .before .raw-at .result) in let e = c .record-bytes .ensures in search needs
+add-bytes c = let h = record-short (c .before .raw-at .result) in let e = c .record-width .ensures in search needs
 
 returns : tie.Need-returns Inv-loop μ-loop
 returns c =
     let a = c .before .before .before .before .before .before .args in
     let l = c .before .before .before .before .loop in
     measured-above _ _ (c .if1 .taken)
-    (omega (arith, l .inv .2, length-next (a .words .now) (l .i) (omega (arith, c .before .before .before .loop-test .taken)) (c .before .before .raw-at .ensures) (c .before .record-bytes .ensures)))
+    (omega (arith, l .inv .2, length-next (a .words .now) (l .i) (omega (arith, c .before .before .before .loop-test .taken)) (c .before .before .raw-at .ensures) (c .before .record-width .ensures)))
 
 loop-again : tie.Need-loop-again Inv-loop μ-loop
 loop-again c =
@@ -37,7 +37,7 @@ loop-again c =
     let l = c .before .before .before .before .loop in (
       search needs,
       search needs,
-      omega (arith, l .inv .2, length-next (a .words .now) (l .i) (omega (arith, c .before .before .before .loop-test .taken)) (c .before .before .raw-at .ensures) (c .before .record-bytes .ensures)),
+      omega (arith, l .inv .2, length-next (a .words .now) (l .i) (omega (arith, c .before .before .before .loop-test .taken)) (c .before .before .raw-at .ensures) (c .before .record-width .ensures)),
     )
 
 returns-2 : tie.Need-returns-2 Inv-loop μ-loop

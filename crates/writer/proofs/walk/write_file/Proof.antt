@@ -3,7 +3,7 @@ use native.Mathlib.Omega.{arith}
 use borrow.Author.Needs.{needs}
 use Rattle.raw_records.specs.Raw.{recordsOf}
 use Rattle.fields.specs.Placed.{joined}
-use Rattle.writer.specs.File.{headerBytes, fileOf}
+use Rattle.writer.specs.File.{headerInBytes, fileOf}
 use Rattle.writer.specs.Progress.{header-long, part-room, part-wrote}
 use Rattle.writer.specs.Write.{file-length}
 use Rattle.writer.proofs.walk.write_file.Statement.{statement}
@@ -42,7 +42,7 @@ unfolding fileOf
 returns c =
     let s = c .before .before .before .before .before .before .before .before .before .before in
     let a = s .args in
-    joined (omega (arith, s .pre)) (part-wrote (a .out .now) (a .at) (headerBytes (a .n) (a .flags) (a .ls) (a .la)) (c .before .before .before .before .before .before .write-header .ensures)) (c .before .before .write-records .ensures)
+    joined (omega (arith, s .pre)) (part-wrote (a .out .now) (a .at) (headerInBytes (a .n) (a .flags) (a .ls) (a .la)) (c .before .before .before .before .before .before .write-header .ensures)) (c .before .before .write-records .ensures)
 
 pub write-file-spec : {M : Type 1} → statement M
 write-file-spec =

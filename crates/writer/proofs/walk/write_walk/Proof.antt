@@ -3,7 +3,7 @@ use mathlib.Core.Path.{sym, _∙_}
 use lib.ListN.{length}
 use borrow.Author.Needs.{needs}
 use Rattle.raw_records.specs.Raw.{recordsOf}
-use Rattle.writer.specs.Write.{write-refusal-told, accepted, refused, written}
+use Rattle.writer.specs.Write.{write-refusal-told, zero-passes, refused, written}
 use Rattle.writer.proofs.walk.write_walk.Statement.{statement}
 use Rattle.writer.proofs.walk.write_walk.Tie as tie
 
@@ -20,7 +20,7 @@ write-file-requires : tie.Need-write-file-requires
 write-file-requires c κs =
     let a = c .before .before .before .before .before .before .before .before .before .before .before .before .args in
     let f = c .before .before in
-    accepted (a .n) (a .flags) (a .ls) (a .la) (recordsOf (a .words .now)) (length (a .out .now)) (a .at)
+    zero-passes (a .n) (a .flags) (a .ls) (a .la) (recordsOf (a .words .now)) (length (a .out .now)) (a .at)
     (sym (write-refusal-told (a .n) (a .flags) (a .ls) (a .la) (recordsOf (a .words .now)) (length (a .out .now)) (a .at) (f .before .before .before .before .before .before .before .measure .ensures)
     (f .before .before .before .before .before .before .length-refusal .ensures) (f .before .before .before .before .before .header-refusal .ensures) (f .before .before .first .ensures)
     (f .before .before .before .before .records-refusal .ensures) (f .before .first2 .ensures) (f .before .before .before .room-refusal .ensures) (f .first3 .ensures)) ∙ c .before .if1 .left) .room

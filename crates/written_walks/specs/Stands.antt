@@ -8,17 +8,17 @@ use lib.ListN.{length, take, drop}
 use lib.Seq.{length-take-le, take-at, drop-at}
 use Rattle.raw_records.specs.Raw.{recordsOf}
 use Rattle.fields.specs.Placed.{placed, Wrote, kept}
-use Rattle.writer.specs.declared.walk.Written.the-variants.{Count, Refused}
+use Rattle.writer.specs.declared.walk.Filing.the-variants.{Written, Refused}
 use Rattle.writer.specs.File.{fileOf}
-use Rattle.writer.specs.Write.{WriteOutcome, writeOutcome, writeRefusal, byRefusal, writeOf, Accepted, accepted}
+use Rattle.writer.specs.Write.{WriteOutcome, writeOutcome, writeRefusal, byRefusal, writeOf, WalkPasses, zero-passes}
 
 -- what an answer with a count says
-pub record Done (n flags ls la : ℕ) (words buffer : List ℕ) (at count : ℕ) (after : List ℕ) : Type 0 where
-  pub passed : Accepted n flags ls la (recordsOf words) (length buffer) at
+pub record WalkStands (n flags ls la : ℕ) (words buffer : List ℕ) (at count : ℕ) (after : List ℕ) : Type 0 where
+  pub passed : WalkPasses n flags ls la (recordsOf words) (length buffer) at
   pub count-is : count ≡ length (fileOf n flags ls la (recordsOf words))
   pub after-is : after ≡ placed buffer at (fileOf n flags ls la (recordsOf words))
 
-counted : (k : ℕ) (buffer : List ℕ) (at : ℕ) (file : List ℕ) (count : ℕ) (after : List ℕ) → byRefusal k buffer at file ≡ writeOutcome (Count count) after
+counted : (k : ℕ) (buffer : List ℕ) (at : ℕ) (file : List ℕ) (count : ℕ) (after : List ℕ) → byRefusal k buffer at file ≡ writeOutcome (Written count) after
     → (k ≡ 0) × (count ≡ length file) × (after ≡ placed buffer at file)
 counted zero buffer at file count after e =
     let answers = ap (λ (o : WriteOutcome). o .answer) e in
@@ -60,17 +60,17 @@ module _ (n flags ls la : ℕ) (words buffer : List ℕ) (at : ℕ) where
   abbrev file : List ℕ
   file = fileOf n flags ls la (recordsOf words)
 
-  pub done : (count : ℕ) (after : List ℕ) → writeOf n flags ls la words buffer at ≡ writeOutcome (Count count) after → Done n flags ls la words buffer at count after
+  pub walk-stands : (count : ℕ) (after : List ℕ) → writeOf n flags ls la words buffer at ≡ writeOutcome (Written count) after → WalkStands n flags ls la words buffer at count after
   unfolding writeOf
-  done count after e =
+  walk-stands count after e =
       let c = counted (writeRefusal n flags ls la (recordsOf words) (length buffer) at) buffer at file count after e in
-      record { passed = accepted n flags ls la (recordsOf words) (length buffer) at (c .0); count-is = c .1; after-is = c .2 }
+      record { passed = zero-passes n flags ls la (recordsOf words) (length buffer) at (c .0); count-is = c .1; after-is = c .2 }
 
   pub refused-kept : (number : ℕ) (after : List ℕ) → writeOf n flags ls la words buffer at ≡ writeOutcome (Refused number) after → after ≡ buffer
   unfolding writeOf
   refused-kept number after e = kept-by (writeRefusal n flags ls la (recordsOf words) (length buffer) at) buffer at file number after e
 
-  module _ (count : ℕ) (after : List ℕ) (d : Done n flags ls la words buffer at count after) where
+  module _ (count : ℕ) (after : List ℕ) (d : WalkStands n flags ls la words buffer at count after) where
     within : at ≤ length buffer
     within = omega (arith, d .passed .room)
 
