@@ -22,7 +22,7 @@ abbrev pub isSame : Verdict → Bool
 isSame Same = true
 isSame (Line line) = false
 
--- what a walk adds to the number of those that do not agree
+-- what a comparison adds to the number of those that failed
 abbrev pub disagreements : (agrees : Bool) → ℕ
 disagreements true = 0
 disagreements false = 1

@@ -9,6 +9,7 @@ use native.Mathlib.Numerals.{add-one}
 use lib.ListN.{length, drop, getD, drop-of-length-le}
 use lib.Seq.{drop-cons}
 use borrow.Author.Tests.{eq-eqb, ne-eqb}
+use Rattle.comparison.specs.declared.Totals.{Totals}
 use Rattle.comparison.specs.declared.Verdict.the-variants.{Same, Line}
 use Rattle.comparison.specs.Compare.{lineAfter, difference, disagreements}
 
@@ -45,6 +46,16 @@ module _ (line : ℕ) (a b : List ℕ) (i : ℕ) where
 
 -- ---- the totals
 
-pub at-most-one : (agrees : Bool) → disagreements agrees ≤ 1
-at-most-one true = omega arith
-at-most-one false = omega arith
+-- no more than so many comparisons were made, and no more failed
+pub record Within (t : Totals) (limit : ℕ) : Type 0 where
+  pub few : t .compared ≤ limit
+  pub fewer : t .differ ≤ t .compared
+
+pub within-later : (t : Totals) (limit next : ℕ) → limit < next → Within t limit → Within t next
+within-later t limit next h w = record { few = omega (arith, w .few); fewer = w .fewer }
+
+-- one comparison more
+pub within-next : (t r : Totals) (limit next : ℕ) → limit < next → Within t limit → (agrees : Bool)
+    → (r .compared ≡ t .compared + 1) × (r .differ ≡ t .differ + disagreements agrees) → Within r next
+within-next t r limit next h w true e = record { few = omega (arith, w .few, e .0); fewer = omega (arith, w .fewer, e .0, e .1) }
+within-next t r limit next h w false e = record { few = omega (arith, w .few, e .0); fewer = omega (arith, w .fewer, e .0, e .1) }

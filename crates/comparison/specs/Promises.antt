@@ -1,5 +1,6 @@
 -- What the crate promises beside the contracts: a verdict is `Same` exactly if the two texts are the same. By the contract of
--- `judging::judge` these are the listing that is defined for the walk file (`walkfile`, Listing) and the stored one.
+-- `judging::judge` these are the listing that is defined for the walk file (`walkfile`, Listing) and the stored one; by that of
+-- `rewriting::back::rewrite` the bytes that are defined as written (`writer`, Write) and the file's own.
 -- Assumes nothing.
 use mathlib.Core.Bool.{Bool, true, false, cond}
 use mathlib.Core.List.{List, [], _∷_}

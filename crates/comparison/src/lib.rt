@@ -35,25 +35,25 @@ pub fn first_difference(a: &[u8], b: &[u8]) -> Verdict
     Verdict::Same
 }
 
-// How many walks were run, and how many of them do not agree with their listings.
+// How many comparisons were made, and how many of them failed.
 pub struct Totals {
-    pub walks: u64,
+    pub compared: u64,
     pub differ: u64,
 }
 
-// One walk more.
+// One comparison more.
 pub fn counted(t: Totals, agrees: bool) -> Totals
-    requires { ⌜ (t .differ ≤ t .walks) × (t .walks + 1 < 18446744073709551616) ⌝ }
-    ensures { λ r. ⌜ (r .walks ≡ t .walks + 1) × (r .differ ≡ t .differ + disagreements agrees) ⌝ }
+    requires { ⌜ (t .differ ≤ t .compared) × (t .compared + 1 < 18446744073709551616) ⌝ }
+    ensures { λ r. ⌜ (r .compared ≡ t .compared + 1) × (r .differ ≡ t .differ + disagreements agrees) ⌝ }
 {
     if agrees {
         return Totals {
-            walks: t.walks + 1,
+            compared: t.compared + 1,
             differ: t.differ,
         };
     }
     Totals {
-        walks: t.walks + 1,
+        compared: t.compared + 1,
         differ: t.differ + 1,
     }
 }

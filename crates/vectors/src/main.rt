@@ -1,5 +1,5 @@
-// Runs stored walk files and compares each listing with the one stored for it, which the reference made: a line for each
-// disagreement, then the totals.
+// Runs stored walk files and compares each listing with the one stored for it, which the reference made. Each file that reads
+// whole is also written back and compared with its own bytes. A line for each disagreement, then the totals.
 //
 // The list of them is the file `files`: on its first line the number of walks, then for each the name of its walk file and,
 // on the next line, that of its listing.
@@ -14,6 +14,8 @@ use io::print_decimal;
 use io::write_all;
 use judging::judge;
 use libc::STDOUT_FILENO;
+use rewriting::back::Rewritten;
+use rewriting::back::rewrite;
 use walkfile::LISTING_BYTES;
 ghost use mathlib.Core.Path.{_≡_};
 ghost use Prim.Native.Nat.{_<_, _≤_};
@@ -43,15 +45,15 @@ fn read_file(path: &[u8], buffer: &mut [u8]) -> usize
     input.count
 }
 
-// Whether the verdict is that a walk agrees; a line if not.
-fn told(walk: &[u8], verdict: Verdict) -> bool
+// Whether the verdict is that two texts are the same; a line if not.
+fn told(walk: &[u8], text: &[u8], verdict: Verdict) -> bool
     ensures { λ r. ⌜ r ≡ isSame verdict ⌝ }
 {
     match verdict {
         Verdict::Same => true,
         Verdict::Line(line) => {
             write_all(STDOUT_FILENO, walk);
-            write_all(STDOUT_FILENO, b": line ");
+            write_all(STDOUT_FILENO, text);
             print_decimal(STDOUT_FILENO, line as u64);
             write_all(STDOUT_FILENO, b" differs\n");
             false
@@ -59,12 +61,37 @@ fn told(walk: &[u8], verdict: Verdict) -> bool
     }
 }
 
-fn agrees(walk: &[u8], listing: &[u8]) -> bool {
-    let mut file = [0u8; WALK_BYTES];
+// Whether the listing of a walk file is the stored one.
+fn agrees(walk: &[u8], file: &[u8], listing: &[u8]) -> bool {
     let mut stored = [0u8; STORED_BYTES];
+    let end = read_file(listing, &mut stored);
+    told(walk, b": line ", judge(file, &stored[..end]))
+}
+
+// What came of a walk: whether its listing agrees, whether its file was written back, and whether as it is.
+struct Seen {
+    agrees: bool,
+    written: bool,
+    same: bool,
+}
+
+fn look(walk: &[u8], listing: &[u8]) -> Seen {
+    let mut file = [0u8; WALK_BYTES];
     let end = read_file(walk, &mut file);
-    let listing_end = read_file(listing, &mut stored);
-    told(walk, judge(&file[..end], &stored[..listing_end]))
+    let agreed = agrees(walk, &file[..end], listing);
+    let Rewritten::Compared(verdict) = rewrite(&file[..end]) else {
+        return Seen {
+            agrees: agreed,
+            written: false,
+            same: false,
+        };
+    };
+    let same = told(walk, b": written back, line ", verdict);
+    Seen {
+        agrees: agreed,
+        written: true,
+        same,
+    }
 }
 
 // Where the line after the one at `at` begins.
@@ -76,10 +103,19 @@ fn line_after(list: &[u8], at: usize) -> usize
     if end < list.len() { end + 1 } else { end }
 }
 
+struct Results {
+    listings: Totals,
+    writings: Totals,
+}
+
 // The walks from `first` on. A list that is cut short names fewer than its first line says.
-fn run(list: &[u8], first: usize) -> Totals {
-    let mut totals = Totals {
-        walks: 0,
+fn run(list: &[u8], first: usize) -> Results {
+    let mut listings = Totals {
+        compared: 0,
+        differ: 0,
+    };
+    let mut writings = Totals {
+        compared: 0,
         differ: 0,
     };
     let mut at = first;
@@ -89,12 +125,23 @@ fn run(list: &[u8], first: usize) -> Totals {
             break;
         }
         let next = line_after(list, middle);
-        let agreed = agrees(&list[at..middle - 1], &list[middle..next - 1]);
-        let more = counted(totals, agreed);
-        totals = more;
+        let seen = look(&list[at..middle - 1], &list[middle..next - 1]);
+        let listed = counted(listings, seen.agrees);
+        listings = listed;
+        if seen.written {
+            let written = counted(writings, seen.same);
+            writings = written;
+        }
         at = next;
     }
-    totals
+    Results { listings, writings }
+}
+
+fn print_totals(totals: Totals, text: &[u8]) {
+    print_decimal(STDOUT_FILENO, totals.compared);
+    write_all(STDOUT_FILENO, text);
+    print_decimal(STDOUT_FILENO, totals.differ);
+    write_all(STDOUT_FILENO, b" differ\n");
 }
 
 fn run_list(list: &[u8]) {
@@ -103,19 +150,19 @@ fn run_list(list: &[u8]) {
         return;
     }
     let first = line_after(list, 0);
-    let totals = run(list, first);
+    let results = run(list, first);
+    let listings = results.listings;
+    let writings = results.writings;
     let mut digits = [0u8; 20];
-    let count = io::decimal(totals.walks, &mut digits);
+    let count = io::decimal(listings.compared, &mut digits);
     if !same(&list[0..first - 1], &digits[..count]) {
         write_all(
             STDOUT_FILENO,
             b"files: not the number of walks that the first line says\n",
         );
     }
-    print_decimal(STDOUT_FILENO, totals.walks);
-    write_all(STDOUT_FILENO, b" walks, ");
-    print_decimal(STDOUT_FILENO, totals.differ);
-    write_all(STDOUT_FILENO, b" differ\n");
+    print_totals(listings, b" walks, ");
+    print_totals(writings, b" written back, ");
 }
 
 fn main() {

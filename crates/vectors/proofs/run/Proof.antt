@@ -1,26 +1,41 @@
 -- `run` is safe and ends: each turn takes two lines of the list. Assumes nothing.
-use Prim.Native.Nat.{_≤_, _-_}
+use Prim.Native.Nat.{_-_, _<_}
 use native.Mathlib.Omega.{arith}
 use lib.ListN.{length}
-use Rattle.comparison.specs.Laws.{at-most-one}
+use Rattle.comparison.specs.Laws.{Within, within-later, within-next}
 use borrow.Author.Needs.{needs}
 use Rattle.vectors.proofs.run.Statement.{statement}
 use Rattle.vectors.proofs.run.Tie as tie
 
 abbrev Inv-loop : tie.InvT-loop
-Inv-loop list first totals₀ at₀ totals at = (totals .walks ≤ at) × (totals .differ ≤ totals .walks)
+Inv-loop list first listings₀ writings₀ at₀ listings writings at = Within listings at × Within writings at
 
 abbrev μ-loop : tie.MeasureT-loop
-μ-loop list first totals₀ at₀ totals at = length list - at
+μ-loop list first listings₀ writings₀ at₀ listings writings at = length list - at
+
+-- the next walk is further on
+further : (c : tie.After-counted Inv-loop μ-loop)
+    → c .before .before .before .before .before .before .before .before .loop .at < c .before .before .before .before .line-after2 .result
+further c = omega (arith, c .before .before .before .before .before .before .line-after .ensures .0, c .before .before .before .before .line-after2 .ensures .0)
+
+-- its listing is counted
+listed : (c : tie.After-counted Inv-loop μ-loop) → Within (c .counted .result) (c .before .before .before .before .line-after2 .result)
+listed c = within-next _ _ _ _ (further c) (c .before .before .before .before .before .before .before .before .loop .inv .0) (c .before .look .result .agrees) (c .counted .ensures)
 
 loop-less : tie.Need-loop-less Inv-loop μ-loop
-loop-less c =
-    omega (arith, c .before .before .before .before .line-after2 .ensures .0, c .before .before .before .before .before .before .line-after .ensures .0, c .before .before .before .before .before .before .before .loop-test .taken)
+loop-less c = omega (arith, further (c .before .before), c .before .before .before .before .before .before .before .before .before .loop-test .taken)
 
 loop-again : tie.Need-loop-again Inv-loop μ-loop
-loop-again c =
-    let one = at-most-one (c .before .agrees .result) in
-    (omega (arith, c .before .before .before .before .line-after2 .ensures .0, c .before .before .before .before .before .before .line-after .ensures .0), omega arith)
+loop-again c = (
+  listed (c .before .before),
+  within-next _ _ _ _ (further (c .before .before)) (c .before .before .before .before .before .before .before .before .before .before .loop .inv .1) (c .before .before .before .look .result .same) (c .counted2 .ensures),
+)
+
+loop-less-2 : tie.Need-loop-less-2 Inv-loop μ-loop
+loop-less-2 c = omega (arith, further (c .before), c .before .before .before .before .before .before .before .before .loop-test .taken)
+
+loop-again-2 : tie.Need-loop-again-2 Inv-loop μ-loop
+loop-again-2 c = (listed (c .before), within-later _ _ _ (further (c .before)) (c .before .before .before .before .before .before .before .before .before .loop .inv .1))
 
 pub run-spec : {M : Type 1} → statement M
 run-spec =
@@ -41,7 +56,10 @@ run-spec =
     (λ c. search needs)
     (λ c κs. search needs)
     (λ c κs. search needs)
+    (λ c κs. search needs)
     loop-less
     loop-again
+    loop-less-2
+    loop-again-2
     (λ c. search needs)
     (λ c. search needs))
