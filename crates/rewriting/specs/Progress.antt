@@ -9,18 +9,18 @@ use lib.Seq.{sets, sets-eq}
 use borrow.Rule.Slice.PartMut.{midOf, putMid}
 use Rattle.exchange.specs.declared.call.Call.{Call}
 use Rattle.exchange.specs.declared.call.Call.the-variants.{Term, Step}
-use Rattle.fields.specs.Placed.{placed, Wrote, joined, wrote-as}
 use Rattle.records.specs.Headers.{headerBytes}
 use Rattle.records.specs.Calls.{Ending, Calls, callsOf, CallAt}
-use Rattle.raw_records.specs.Calls.{wordsFor, wordsOf}
+use Rattle.raw_records.specs.Calls.{callWords, wordsFor}
+use Rattle.fields.specs.Placed.{placed, Wrote, joined, wrote-as}
 use Rattle.writer.specs.Progress.{part-wrote, nothing-wrote}
 use Rattle.rewriting.specs.Reading.{readOutcome, answerBy, fileWords, readOf}
 
 -- the words of the records before `at` stand at the front
-pub record Progress (file before after : List ℕ) (at end : ℕ) : Type 0 where
+pub record ReadProgress (file before after : List ℕ) (at end : ℕ) : Type 0 where
   pub done : List ℕ
   pub wrote : Wrote before 0 done after end
-  pub whole : done ++ wordsOf (callsOf (drop at file) .calls) ≡ fileWords file
+  pub whole : done ++ wordsFor (callsOf (drop at file) .calls) ≡ fileWords file
   pub ending : callsOf (drop at file) .ending ≡ callsOf (drop headerBytes file) .ending
 
 -- ---- one record
@@ -29,19 +29,19 @@ pub stored : (xs words : List ℕ) → length words ≤ length xs → Wrote xs 0
 unfolding placed
 stored xs words h = record { contents = sets-eq words xs 0 (omega arith); offset = omega arith }
 
-pub seven : (c : Call) → length (wordsFor c) ≡ 7
+pub seven : (c : Call) → length (callWords c) ≡ 7
 seven (Term kind l r) = refl
 seven (Step step run a b m t) = refl
 
 -- ---- one record after the other
 
-pub starts : (file before : List ℕ) → Progress file before before 13 0
+pub starts : (file before : List ℕ) → ReadProgress file before before 13 0
 starts file before = record { done = []; wrote = nothing-wrote before 0; whole = refl; ending = refl }
 
-module _ (file before after : List ℕ) (at end : ℕ) (p : Progress file before after at end) where
+module _ (file before after : List ℕ) (at end : ℕ) (p : ReadProgress file before after at end) where
   module _ {c : Call} {next : ℕ} (r : CallAt file at c next) where
-    onward : p .done ++ (wordsFor c ++ wordsOf (callsOf (drop next file) .calls)) ≡ fileWords file
-    onward = ap (λ (cs : Calls). p .done ++ wordsOf (cs .calls)) (sym (r .first)) ∙ p .whole
+    onward : p .done ++ (callWords c ++ wordsFor (callsOf (drop next file) .calls)) ≡ fileWords file
+    onward = ap (λ (cs : Calls). p .done ++ wordsFor (cs .calls)) (sym (r .first)) ∙ p .whole
 
     pub next-fits : length (fileWords file) ≤ length before → end + 7 ≤ length before
     next-fits room =
@@ -49,24 +49,24 @@ module _ (file before after : List ℕ) (at end : ℕ) (p : Progress file before
           arith,
           p .wrote .offset,
           seven c,
-          length-append (p .done) (wordsFor c ++ wordsOf (callsOf (drop next file) .calls)),
-          length-append (wordsFor c) (wordsOf (callsOf (drop next file) .calls)),
+          length-append (p .done) (callWords c ++ wordsFor (callsOf (drop next file) .calls)),
+          length-append (callWords c) (wordsFor (callsOf (drop next file) .calls)),
           ap (λ (ws : List ℕ). length ws) onward,
         )
 
-    pub goes-on : {part : List ℕ} {n : ℕ} → Wrote (midOf end (length after - end) after) 0 (wordsFor c) part n
-        → Progress file before (putMid end (length after - end) after part) next (end + n)
+    pub goes-on : {part : List ℕ} {n : ℕ} → Wrote (midOf end (length after - end) after) 0 (callWords c) part n
+        → ReadProgress file before (putMid end (length after - end) after part) next (end + n)
     goes-on {part} {n} w = record {
-      done = p .done ++ wordsFor c;
-      wrote = joined (omega arith) (p .wrote) (part-wrote after end (wordsFor c) w);
-      whole = append-assoc (p .done) (wordsFor c) (wordsOf (callsOf (drop next file) .calls)) ∙ onward;
+      done = p .done ++ callWords c;
+      wrote = joined (omega arith) (p .wrote) (part-wrote after end (callWords c) w);
+      whole = append-assoc (p .done) (callWords c) (wordsFor (callsOf (drop next file) .calls)) ∙ onward;
       ending = ap (λ (cs : Calls). cs .ending) (sym (r .first)) ∙ p .ending;
     }
 
   pub finishes : {e : Ending} → callsOf (drop at file) ≡ record { calls = []; ending = e } → readOutcome (answerBy e end) after ≡ readOf file before
   unfolding readOf
   finishes {e} last =
-      let is : p .done ≡ fileWords file = sym (append-nil (p .done)) ∙ ap (λ (cs : Calls). p .done ++ wordsOf (cs .calls)) (sym last) ∙ p .whole in
+      let is : p .done ≡ fileWords file = sym (append-nil (p .done)) ∙ ap (λ (cs : Calls). p .done ++ wordsFor (cs .calls)) (sym last) ∙ p .whole in
       let w : Wrote before 0 (fileWords file) after end = wrote-as is (p .wrote) in
       ap (λ (k : Ending). readOutcome (answerBy k end) after) (ap (λ (cs : Calls). cs .ending) (sym last) ∙ p .ending)
       ∙ ap (λ (k : ℕ). readOutcome (answerBy (callsOf (drop headerBytes file) .ending) k) after) (omega (arith, w .offset))

@@ -3,17 +3,11 @@
 -- Assumes nothing.
 use mathlib.Core.Path.{_≡_, refl, sym, ap, _∙_}
 use mathlib.Core.Bool.{true}
-use mathlib.Core.List.{List, _++_, map, append-assoc}
-use Prim.Native.Nat.{ℕ, _+_, _≤_}
+use mathlib.Core.List.{List, map}
+use Prim.Native.Nat.{ℕ}
 use native.Mathlib.Omega.{arith}
-use lib.ListN.{length, take, drop, replicate, length-replicate}
-use lib.Seq.{length-take-le, take-at, drop-at}
-use Rattle.comparison.specs.declared.Verdict.{Verdict}
-use Rattle.comparison.specs.declared.Verdict.the-variants.{Same}
-use Rattle.comparison.specs.Compare.{difference}
-use Rattle.comparison.specs.Promises.{itself}
+use lib.ListN.{length, drop, replicate, length-replicate}
 use Rattle.exchange.specs.declared.call.Call.{Call}
-use Rattle.fields.specs.Placed.{placed}
 use Rattle.realm.specs.Opening.{headerFits}
 use Rattle.records.specs.declared.header.Header.{Header}
 use Rattle.records.specs.declared.header.Header.the-variants as header
@@ -23,14 +17,20 @@ use Rattle.records.specs.Calls.{Ending, ended, broken, Calls, callsOf}
 use Rattle.records.specs.Promises.{header-read}
 use Rattle.raw_records.specs.Raw.{recordsOf}
 use Rattle.raw_records.specs.Refusals.{recordsRefusal}
-use Rattle.raw_records.specs.Calls.{rawFor, wordsOf, records-for}
-use Rattle.writer.specs.declared.walk.Written.{Written}
-use Rattle.writer.specs.declared.walk.Written.the-variants as written
-use Rattle.writer.specs.Write.{WriteOutcome, writeOutcome, writeOf, Accepted}
-use Rattle.writer.specs.Promises.{ReadsAs, write-back}
+use Rattle.raw_records.specs.Calls.{rawFor, wordsFor, records-for}
+use Rattle.writer.specs.declared.walk.Filing.{Filing}
+use Rattle.writer.specs.declared.walk.Filing.the-variants as filing
+use Rattle.writer.specs.Write.{WriteOutcome, writeOutcome, writeOf, WalkPasses}
+use Rattle.written_walks.specs.Promises.{written-passes, write-back}
+use Rattle.written_walks.specs.ReadBack.{ReadsAs}
+use Rattle.written_walks.specs.Stands.{part-is}
+use Rattle.comparison.specs.declared.Verdict.{Verdict}
+use Rattle.comparison.specs.declared.Verdict.the-variants.{Same}
+use Rattle.comparison.specs.Compare.{difference}
+use Rattle.comparison.specs.Promises.{itself}
 use Rattle.rewriting.specs.declared.back.Rewritten.the-variants.{Compared}
 use Rattle.rewriting.specs.Reading.{fileWords}
-use Rattle.rewriting.specs.Rewriting.{offset, places, compared, writtenBack, byEnding, byHeader, rewrittenOf, was-accepted, compared-is, by-ending}
+use Rattle.rewriting.specs.Rewriting.{offset, places, compared, writtenBack, byEnding, byHeader, rewrittenOf, compared-is, by-ending}
 
 -- a file that reads to its end, and whose header and records pass by their own fields
 pub record Writable (file : List ℕ) : Type 0 where
@@ -46,11 +46,11 @@ pub record Writable (file : List ℕ) : Type 0 where
 module _ (file : List ℕ) where
   -- ---- what was written was writable
 
-  passed : (n flags ls la : ℕ) (words : List ℕ) (v : Verdict) (r : Written) (after : List ℕ)
+  passed : (n flags ls la : ℕ) (words : List ℕ) (v : Verdict) (r : Filing) (after : List ℕ)
       → writeOutcome r after ≡ writeOf n flags ls la words (replicate places 0) offset → compared r after file ≡ Compared v
-      → Accepted n flags ls la (recordsOf words) (length (replicate {A = ℕ} places 0)) offset
-  passed n flags ls la words v (written.Count count) after w e = was-accepted n flags ls la words (replicate places 0) offset count after w .0
-  passed n flags ls la words v (written.Refused number) after w e = let z : _≡_ {A = ℕ} 0 1 = cc in absurd (omega arith)
+      → WalkPasses n flags ls la (recordsOf words) (length (replicate {A = ℕ} places 0)) offset
+  passed n flags ls la words v (filing.Written count) after w e = written-passes n flags ls la words (replicate places 0) offset count after (sym w)
+  passed n flags ls la words v (filing.Refused number) after w e = let z : _≡_ {A = ℕ} 0 1 = cc in absurd (omega arith)
 
   by-calls : (n flags ls la : ℕ) (v : Verdict) → headerOf file ≡ header.Read n flags ls la → (e : Ending) → callsOf (drop headerBytes file) .ending ≡ e
       → byEnding e n flags ls la file ≡ Compared v → Writable file
@@ -77,23 +77,16 @@ module _ (file : List ℕ) where
 
   -- ---- what is writable is written
 
-  part-is : (buffer : List ℕ) (at : ℕ) → at ≤ length buffer → take (length file) (drop at (placed buffer at file)) ≡ file
-  unfolding placed
-  part-is buffer at h =
-      ap (λ (xs : List ℕ). take (length file) (drop at xs)) (append-assoc (take at buffer) file (drop (at + length file) buffer))
-      ∙ ap (λ (xs : List ℕ). take (length file) xs) (drop-at (take at buffer) (file ++ drop (at + length file) buffer) at (length-take-le at buffer h))
-      ∙ take-at file (drop (at + length file) buffer) (length file) refl
-
   -- A writable file is written, and what was written is the file,
   pub written-back : Bytes file → Writable file → rewrittenOf file ≡ Compared Same
   written-back b w =
       let most = header-read file (w .n) (w .flags) (w .ls) (w .la) (w .reads .header) .most in
       let long = length-replicate {A = ℕ} places 0 in
       sym (by-ending file (w .n) (w .flags) (w .ls) (w .la) (sym (w .reads .header)) (ap (λ (cs : Calls). cs .ending) (w .reads .records)))
-      ∙ ap (λ (cs : Calls). writtenBack (w .n) (w .flags) (w .ls) (w .la) (wordsOf (cs .calls)) file) (w .reads .records)
-      ∙ sym (compared-is (w .n) (w .flags) (w .ls) (w .la) (wordsOf (w .calls)) file
+      ∙ ap (λ (cs : Calls). writtenBack (w .n) (w .flags) (w .ls) (w .la) (wordsFor (cs .calls)) file) (w .reads .records)
+      ∙ sym (compared-is (w .n) (w .flags) (w .ls) (w .la) (wordsFor (w .calls)) file
       (sym (write-back file b (w .n) (w .flags) (w .ls) (w .la) (w .calls) (w .reads) (w .header-passes) (w .records-pass) (replicate places 0) offset (omega (arith, most, long)))))
-      ∙ ap (λ (xs : List ℕ). Compared (difference 1 xs file)) (part-is (replicate places 0) offset (omega (arith, long)))
+      ∙ ap (λ (xs : List ℕ). Compared (difference 1 xs file)) (part-is (replicate places 0) offset file (omega (arith, long)))
       ∙ ap Compared (itself 1 file)
 
   -- and no other file is written.

@@ -8,11 +8,11 @@ use lib.ListN.{length, take, drop, length-drop}
 use lib.Seq.{take-at}
 use Rattle.exchange.specs.declared.call.Call.{Call}
 use Rattle.exchange.specs.declared.call.Call.the-variants.{Term, Step}
-use Rattle.fields.specs.Placed.{placed}
 use Rattle.records.specs.Headers.{headerBytes, maxFile}
 use Rattle.records.specs.Calls.{Ending, ended, broken, callsOf}
 use Rattle.records.specs.Promises.{calls-few}
-use Rattle.raw_records.specs.Calls.{wordsOf}
+use Rattle.raw_records.specs.Calls.{wordsFor}
+use Rattle.fields.specs.Placed.{placed}
 use Rattle.rewriting.specs.declared.reading.WordsRead.{WordsRead}
 use Rattle.rewriting.specs.declared.reading.WordsRead.the-variants.{Count, Broken}
 
@@ -33,7 +33,7 @@ answerBy broken count = Broken
 
 -- the words of the records of a file, up to where reading ends
 abbrev pub fileWords : List ℕ → List ℕ
-fileWords file = wordsOf (callsOf (drop headerBytes file) .calls)
+fileWords file = wordsFor (callsOf (drop headerBytes file) .calls)
 
 -- they stand at the front, and what stands behind them is kept
 unfoldable pub readOf : (file words : List ℕ) → ReadOutcome
@@ -41,7 +41,7 @@ readOf file words = readOutcome (answerBy (callsOf (drop headerBytes file) .endi
 
 -- ---- laws: what an answer says
 
-words-long : (calls : List Call) → length (wordsOf calls) ≡ 7 * length calls
+words-long : (calls : List Call) → length (wordsFor calls) ≡ 7 * length calls
 words-long [] = refl
 words-long (Term kind l r ∷ calls) = omega (arith, words-long calls)
 words-long (Step step run a b m t ∷ calls) = omega (arith, words-long calls)
@@ -52,7 +52,7 @@ words-few file most =
     omega (arith, words-long (callsOf (drop headerBytes file) .calls), calls-few (drop headerBytes file), length-drop headerBytes file)
 
 -- the file reads to its end, and its words stand at the front
-pub record Whole (file after : List ℕ) (count : ℕ) : Type 0 where
+pub record ReadWhole (file after : List ℕ) (count : ℕ) : Type 0 where
   pub ending : callsOf (drop headerBytes file) .ending ≡ ended
   pub count-is : count ≡ length (fileWords file)
   pub front-is : take count after ≡ fileWords file
@@ -66,7 +66,7 @@ by-broken ended long h = let z : _≡_ {A = ℕ} 0 1 = cc in absurd (omega arith
 by-broken broken long h = refl
 
 module _ (file words after : List ℕ) where
-  pub counted : (count : ℕ) → readOutcome (Count count) after ≡ readOf file words → Whole file after count
+  pub counted : (count : ℕ) → readOutcome (Count count) after ≡ readOf file words → ReadWhole file after count
   unfolding readOf placed
   counted count e =
       let b = by-count (callsOf (drop headerBytes file) .ending) count (length (fileWords file)) (ap (λ (o : ReadOutcome). o .answer) e) in

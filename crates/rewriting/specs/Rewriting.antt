@@ -1,20 +1,17 @@
 -- A file written back (document 02, change 1: "a file so read is written back as the same bytes"), and held to its own bytes.
 -- Assumes nothing.
 use mathlib.Core.List.{List}
-use mathlib.Core.Path.{_≡_, refl, sym, ap, _∙_}
-use Prim.Native.Nat.{ℕ, zero, suc, _+_, _≤_}
-use native.Mathlib.Omega.{arith}
-use lib.ListN.{length, take, drop, replicate}
-use Rattle.comparison.specs.Compare.{difference}
+use mathlib.Core.Path.{_≡_, sym, ap, _∙_}
+use Prim.Native.Nat.{ℕ}
+use lib.ListN.{take, drop, replicate}
 use Rattle.records.specs.declared.header.Header.{Header}
 use Rattle.records.specs.declared.header.Header.the-variants as header
 use Rattle.records.specs.Headers.{headerBytes, headerOf}
 use Rattle.records.specs.Calls.{Ending, ended, broken, callsOf}
-use Rattle.raw_records.specs.Raw.{recordsOf}
-use Rattle.writer.specs.declared.walk.Written.{Written}
-use Rattle.writer.specs.declared.walk.Written.the-variants as written
-use Rattle.writer.specs.File.{fileOf}
-use Rattle.writer.specs.Write.{WriteOutcome, writeOutcome, writeRefusal, byRefusal, writeOf, Accepted, accepted}
+use Rattle.writer.specs.declared.walk.Filing.{Filing}
+use Rattle.writer.specs.declared.walk.Filing.the-variants as filing
+use Rattle.writer.specs.Write.{WriteOutcome, writeOutcome, writeOf}
+use Rattle.comparison.specs.Compare.{difference}
 use Rattle.rewriting.specs.declared.back.Rewritten.{Rewritten}
 use Rattle.rewriting.specs.declared.back.Rewritten.the-variants.{Unread, Refused, Compared}
 use Rattle.rewriting.specs.Reading.{fileWords}
@@ -27,9 +24,9 @@ abbrev pub places : ℕ
 places = 65541
 
 -- the bytes at the offset, as many as were counted, against the file
-abbrev pub compared : Written → (buffer file : List ℕ) → Rewritten
-compared (written.Refused number) buffer file = Refused number
-compared (written.Count count) buffer file = Compared (difference 1 (take count (drop offset buffer)) file)
+abbrev pub compared : Filing → (buffer file : List ℕ) → Rewritten
+compared (filing.Refused number) buffer file = Refused number
+compared (filing.Written count) buffer file = Compared (difference 1 (take count (drop offset buffer)) file)
 
 -- written into a buffer of zeros
 unfoldable pub writtenBack : (n flags ls la : ℕ) (words file : List ℕ) → Rewritten
@@ -51,29 +48,9 @@ byHeader (header.Read n flags ls la) file = byEnding (callsOf (drop headerBytes 
 unfoldable pub rewrittenOf : List ℕ → Rewritten
 rewrittenOf file = byHeader (headerOf file) file
 
--- ---- laws: what was written
-
-module _ (n flags ls la : ℕ) (words buffer : List ℕ) (at : ℕ) where
-  by-refusal : (k : ℕ) (bytes : List ℕ) (count : ℕ) (after : List ℕ) → writeOutcome (written.Count count) after ≡ byRefusal k buffer at bytes
-      → (k ≡ 0) × (count ≡ length bytes)
-  by-refusal zero bytes count after e = let a = ap (λ (o : WriteOutcome). o .answer) e in (refl, cc)
-  by-refusal (suc k) bytes count after e =
-      let a = ap (λ (o : WriteOutcome). o .answer) e in
-      let z : _≡_ {A = ℕ} 0 1 = cc in
-      absurd (omega arith)
-
-  -- what was counted was accepted
-  pub was-accepted : (count : ℕ) (after : List ℕ) → writeOutcome (written.Count count) after ≡ writeOf n flags ls la words buffer at
-      → Accepted n flags ls la (recordsOf words) (length buffer) at × (at + count ≤ length buffer)
-  unfolding writeOf
-  was-accepted count after e =
-      let b = by-refusal (writeRefusal n flags ls la (recordsOf words) (length buffer) at) (fileOf n flags ls la (recordsOf words)) count after e in
-      let a = accepted n flags ls la (recordsOf words) (length buffer) at (b .0) in
-      (a, omega (arith, b .1, a .room))
-
 -- ---- laws: by the way out
 
-pub compared-is : (n flags ls la : ℕ) (words file : List ℕ) {r : Written} {after : List ℕ}
+pub compared-is : (n flags ls la : ℕ) (words file : List ℕ) {r : Filing} {after : List ℕ}
     → writeOutcome r after ≡ writeOf n flags ls la words (replicate places 0) offset → compared r after file ≡ writtenBack n flags ls la words file
 unfolding writtenBack
 compared-is n flags ls la words file e = ap (λ (o : WriteOutcome). compared (o .answer) (o .buffer) file) e

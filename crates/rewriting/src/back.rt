@@ -6,7 +6,7 @@ use comparison::first_difference;
 use records::header::Header;
 use records::header::MAX_FILE;
 use records::header::read_header;
-use writer::walk::Written;
+use writer::walk::Filing;
 use writer::walk::write_walk;
 ghost use mathlib.Core.Path.{_≡_};
 ghost use Rattle.rewriting.specs.Rewriting.{writtenBack, rewrittenOf};
@@ -35,8 +35,8 @@ fn write_back(n: u8, flags: u16, ls: u32, la: u32, words: &[u32], file: &[u8]) -
 {
     let mut out = [0u8; PLACES];
     match write_walk(n, flags, ls, la, words, &mut out, OFFSET) {
-        Written::Refused(refusal) => Rewritten::Refused(refusal),
-        Written::Count(count) => {
+        Filing::Refused(refusal) => Rewritten::Refused(refusal),
+        Filing::Written(count) => {
             let end = OFFSET + count;
             Rewritten::Compared(first_difference(&out[OFFSET..end], file))
         }

@@ -2,19 +2,16 @@
 use exchange::call::Call;
 use records::header::HEADER_BYTES;
 use records::record::Record;
+use records::record::STEP_MARK;
+use records::record::TERM_MARK;
 use records::record::read_record;
 ghost use mathlib.Core.List.{_∷_, []};
 ghost use mathlib.Core.Path.{_≡_};
 ghost use Prim.Native.Nat.{_≤_};
 ghost use lib.ListN.{length};
 ghost use Rattle.fields.specs.Placed.{Wrote};
-ghost use Rattle.raw_records.specs.Calls.{wordsFor};
+ghost use Rattle.raw_records.specs.Calls.{callWords};
 ghost use Rattle.rewriting.specs.Reading.{fileWords, readOutcome, readOf};
-
-// The letters TM and ST.
-const TERM_MARK: u32 = 0x544D;
-
-const STEP_MARK: u32 = 0x5354;
 
 pub enum WordsRead {
     // so many words
@@ -41,11 +38,20 @@ fn put(words: &mut [u32], mark: u32, u: u32, v: u32, w: u32, x: u32, y: u32, z: 
 // The words of a call; a term has three fields.
 fn put_call(words: &mut [u32], call: Call) -> usize
     requires { ⌜ 7 ≤ length (now words) ⌝ }
-    ensures { λ r. ⌜ Wrote (now (words .entry)) 0 (wordsFor call) (now (words .exit)) r ⌝ }
+    ensures { λ r. ⌜ Wrote (now (words .entry)) 0 (callWords call) (now (words .exit)) r ⌝ }
 {
     match call {
         Call::Term { kind, l, r } => {
-            put(words, TERM_MARK, kind as u32, l as u32, r as u32, 0, 0, 0)
+            put(
+                words,
+                TERM_MARK as u32,
+                kind as u32,
+                l as u32,
+                r as u32,
+                0,
+                0,
+                0,
+            )
         }
         Call::Step {
             step,
@@ -56,7 +62,7 @@ fn put_call(words: &mut [u32], call: Call) -> usize
             t,
         } => put(
             words,
-            STEP_MARK,
+            STEP_MARK as u32,
             step as u32,
             run as u32,
             a as u32,

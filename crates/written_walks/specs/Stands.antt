@@ -37,7 +37,7 @@ kept-by zero buffer at file number after e =
 kept-by (suc k) buffer at file number after e = sym (ap (λ (o : WriteOutcome). o .buffer) e)
 
 module _ (buffer : List ℕ) (at : ℕ) (file : List ℕ) (h : at ≤ length buffer) where
-  part-is : take (length file) (drop at (placed buffer at file)) ≡ file
+  pub part-is : take (length file) (drop at (placed buffer at file)) ≡ file
   unfolding placed
   part-is =
       ap (λ (xs : List ℕ). take (length file) (drop at xs)) (append-assoc (take at buffer) file (drop (at + length file) buffer))

@@ -5,13 +5,13 @@ use mathlib.Core.Path.{_≡_, sym, ap, _∙_}
 use Prim.Native.Nat.{ℕ, _≤_}
 use native.Mathlib.Omega.{arith}
 use lib.ListN.{length, replicate, length-replicate, length-take}
+use borrow.Author.Needs.{needs}
 use Rattle.records.specs.declared.header.Header.the-variants as header
 use Rattle.records.specs.Headers.{headerOf}
 use Rattle.records.specs.Promises as records
 use Rattle.rewriting.specs.declared.reading.WordsRead.{WordsRead}
-use Rattle.rewriting.specs.Reading.{readOutcome, fileWords, Whole, words-few, counted, broken-off}
+use Rattle.rewriting.specs.Reading.{readOutcome, fileWords, ReadWhole, words-few, counted, broken-off}
 use Rattle.rewriting.specs.Rewriting.{writtenBack, by-header, by-ending}
-use borrow.Author.Needs.{needs}
 use Rattle.rewriting.proofs.back.rewrite.Statement.{statement}
 use Rattle.rewriting.proofs.back.rewrite.Tie as tie
 
@@ -41,7 +41,7 @@ returns-2 c =
 
 -- all words of the file were read
 whole : (c : tie.After-known-told2)
-    → Whole (c .before .before .before .before .before .before .before .before .before .before .before .args .file .now) (c .before .before .before .before .read-words .last .1 .0) (c .before .end .given .0 .0)
+    → ReadWhole (c .before .before .before .before .before .before .before .before .before .before .before .args .file .now) (c .before .before .before .before .read-words .last .1 .0) (c .before .end .given .0 .0)
 whole c =
     let r = c .before .before .before .before .read-words in
     counted _ (replicate 65520 0) (r .last .1 .0) _ (ap (λ (w : WordsRead). readOutcome w (r .last .1 .0)) (sym (c .before .end .given .1)) ∙ r .ensures)

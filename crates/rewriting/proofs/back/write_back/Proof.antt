@@ -3,32 +3,34 @@ use mathlib.Core.Path.{_≡_, sym, ap, _∙_}
 use Prim.Native.Nat.{ℕ, _+_, _-_, _≤_}
 use native.Mathlib.Omega.{arith}
 use lib.ListN.{take, drop, replicate, length-replicate}
-use Rattle.comparison.specs.Compare.{difference}
-use Rattle.writer.specs.declared.walk.Written.{Written}
-use Rattle.writer.specs.declared.walk.Written.the-variants as written
-use Rattle.writer.specs.Write.{writeOutcome, writeOf}
-use Rattle.rewriting.specs.declared.back.Rewritten.the-variants.{Compared}
-use Rattle.rewriting.specs.Rewriting.{offset, places, compared, was-accepted, compared-is}
 use borrow.Author.Needs.{needs}
+use Rattle.writer.specs.declared.walk.Filing.{Filing}
+use Rattle.writer.specs.declared.walk.Filing.the-variants as filing
+use Rattle.writer.specs.Write.{writeOutcome, writeOf}
+use Rattle.written_walks.specs.Stands.{walk-stands}
+use Rattle.comparison.specs.Compare.{difference}
+use Rattle.rewriting.specs.declared.back.Rewritten.the-variants.{Compared}
+use Rattle.rewriting.specs.Rewriting.{offset, places, compared, compared-is}
 use Rattle.rewriting.proofs.back.write_back.Statement.{statement}
 use Rattle.rewriting.proofs.back.write_back.Tie as tie
 
 -- what was written, as the definition has it
 wrote : (c : tie.After-known-told2) → let a = c .before .before .before .before .before .before .before .before .args in
-    writeOutcome (written.Count (c .before .count .given .0 .0)) (c .before .before .before .before .write-walk .last .1 .1 .1 .1 .1 .0)
+    writeOutcome (filing.Written (c .before .count .given .0 .0)) (c .before .before .before .before .write-walk .last .1 .1 .1 .1 .1 .0)
     ≡ writeOf (a .n) (a .flags) (a .ls) (a .la) (a .words .now) (replicate places 0) offset
 wrote c = let w = c .before .before .before .before .write-walk in
-    ap (λ (r : Written). writeOutcome r (w .last .1 .1 .1 .1 .1 .0)) (sym (c .before .count .given .1)) ∙ w .ensures
+    ap (λ (r : Filing). writeOutcome r (w .last .1 .1 .1 .1 .1 .0)) (sym (c .before .count .given .1)) ∙ w .ensures
 
 within : (c : tie.After-known-told2) → offset + c .before .count .given .0 .0 ≤ places
 within c = let a = c .before .before .before .before .before .before .before .before .args in
-    omega (arith, was-accepted (a .n) (a .flags) (a .ls) (a .la) (a .words .now) (replicate places 0) offset _ _ (wrote c) .1, length-replicate {A = ℕ} places 0)
+    let s = walk-stands (a .n) (a .flags) (a .ls) (a .la) (a .words .now) (replicate places 0) offset _ _ (sym (wrote c)) in
+    omega (arith, s .passed .room, s .count-is, length-replicate {A = ℕ} places 0)
 
 returns : tie.Need-returns
 returns c =
     let a = c .before .before .before .before .before .before .before .before .args in
     let w = c .before .before .before .before .write-walk in
-    ap (λ (r : Written). compared r (w .last .1 .1 .1 .1 .1 .0) (a .file .now)) (sym (c .before .refusal .given .1)) ∙ compared-is (a .n) (a .flags) (a .ls) (a .la) (a .words .now) (a .file .now) (w .ensures)
+    ap (λ (r : Filing). compared r (w .last .1 .1 .1 .1 .1 .0) (a .file .now)) (sym (c .before .refusal .given .1)) ∙ compared-is (a .n) (a .flags) (a .ls) (a .la) (a .words .now) (a .file .now) (w .ensures)
 
 returns-2 : tie.Need-returns-2
 returns-2 c =

@@ -2,8 +2,8 @@
 use mathlib.Core.List.{[], _∷_}
 use native.Mathlib.Omega.{arith}
 use lib.ListN.{length-set}
-use Rattle.rewriting.specs.Progress.{stored}
 use borrow.Author.Needs.{needs}
+use Rattle.rewriting.specs.Progress.{stored}
 use Rattle.rewriting.proofs.reading.put.Statement.{statement}
 use Rattle.rewriting.proofs.reading.put.Tie as tie
 

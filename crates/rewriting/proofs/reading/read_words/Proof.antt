@@ -4,16 +4,16 @@ use mathlib.Core.Path.{_≡_, refl, sym, _∙_}
 use Prim.Native.Nat.{_+_, _-_, _≤_}
 use native.Mathlib.Omega.{arith}
 use lib.ListN.{length}
+use borrow.Author.Needs.{needs}
 use Rattle.records.specs.Calls.{CallAt}
 use Rattle.records.specs.Promises.{step-on, ends, none-left, breaks}
 use Rattle.writer.specs.Progress.{part-room}
-use Rattle.rewriting.specs.Progress.{Progress, seven, starts, next-fits, goes-on, finishes}
-use borrow.Author.Needs.{needs}
+use Rattle.rewriting.specs.Progress.{ReadProgress, seven, starts, next-fits, goes-on, finishes}
 use Rattle.rewriting.proofs.reading.read_words.Statement.{statement}
 use Rattle.rewriting.proofs.reading.read_words.Tie as tie
 
 abbrev Inv-loop : tie.InvT-loop
-Inv-loop file words₀ at₀ end₀ words at end = (length words ≡ length words₀) × Progress file words₀ words at end
+Inv-loop file words₀ at₀ end₀ words at end = (length words ≡ length words₀) × ReadProgress file words₀ words at end
 
 abbrev μ-loop : tie.MeasureT-loop
 μ-loop file words₀ at₀ end₀ words at end = length file - at
