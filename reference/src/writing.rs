@@ -6,7 +6,7 @@
 //! record are not read.
 
 use crate::fields::{StepFields, TermFields};
-use crate::file::{Header, Record, StepRecord, TermRecord};
+use crate::file::{read_header, read_records, Header, Record, StepRecord, TermRecord};
 use crate::file::{HEADER_BYTES, MAX_FILE_BYTES, STEP_BYTES, TERM_BYTES};
 use crate::refusal::Refusal;
 
@@ -118,6 +118,17 @@ fn put(bytes: &mut Vec<u8>, record: &Record) {
             bytes.extend(step.time.to_be_bytes());
         }
     }
+}
+
+/// A file again, from its header and records; refusals 1 to 6, those that depend
+/// on the walk apart.
+pub fn rewrite(bytes: &[u8]) -> Result<Vec<u8>, Refusal> {
+    let (header, rest) = read_header(bytes)?;
+    let (records, whole) = read_records(rest);
+    if !whole {
+        return Err(Refusal::BrokenRecord);
+    }
+    file(&header, &words(&records))
 }
 
 /// The words of records that were read.

@@ -9,7 +9,7 @@ use std::path::PathBuf;
 use common::walk;
 use reference::file::{read_header, read_records, Header, MAX_FILE_BYTES};
 use reference::refusal::Refusal;
-use reference::writing::{file_bytes, words, write};
+use reference::writing::{file_bytes, rewrite, words, write};
 
 const HEADER: Header =
     Header { principals: 5, flags: 0x12, ticket_life: 0x0102_0304, authenticator_life: 10 };
@@ -171,4 +171,16 @@ fn what_was_written_is_read_back() {
         let count = write(&header, &words, &mut buffer, 9).unwrap();
         assert_eq!(words_of(&buffer[9..9 + count]), (header, words), "{name}");
     }
+}
+
+#[test]
+fn a_file_that_reads_whole_is_written_again() {
+    let file = some_walk();
+    assert_eq!(rewrite(&file).unwrap(), file);
+    assert_eq!(rewrite(&file[..13]).unwrap(), file[..13]);
+    assert_eq!(rewrite(&[]), Err(Refusal::NoHeader));
+    assert_eq!(rewrite(&file[..file.len() - 1]), Err(Refusal::BrokenRecord));
+    let mut two_principals = file.clone();
+    two_principals[2] = 2;
+    assert_eq!(rewrite(&two_principals), Err(Refusal::BadHeader));
 }
