@@ -2,5 +2,6 @@
 pub mod Promises
 pub mod Fields
 pub mod Placed
+pub mod Parts
 pub mod Decimal
 pub mod Lengths

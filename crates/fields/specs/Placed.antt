@@ -1,7 +1,7 @@
 -- Bytes written into a buffer from an offset on.
 -- Assumes nothing.
 use mathlib.Core.List.{List, [], _∷_, _++_, append-assoc}
-use mathlib.Core.Path.{_≡_, sym, ap, _∙_, subst}
+use mathlib.Core.Path.{_≡_, refl, sym, ap, _∙_, subst}
 use Prim.Native.Nat.{ℕ, suc, _+_, _≤_, _<_}
 use native.Mathlib.Omega.{arith}
 use native.Mathlib.Nat.{add-assoc}
@@ -86,3 +86,21 @@ module _ {before : List ℕ} {at : ℕ} {bytes after : List ℕ} {next : ℕ} (h
   pub kept : drop next after ≡ drop next before
   unfolding placed
   kept = rw (w .contents, w .offset) (drop-at (take at before ++ bytes) (drop (at + length bytes) before) (at + length bytes) (front-length before at bytes h))
+
+-- the same, of the buffer itself
+module _ (buffer : List ℕ) (at : ℕ) (bytes : List ℕ) (h : at ≤ length buffer) where
+  grouped : placed buffer at bytes ≡ take at buffer ++ (bytes ++ drop (at + length bytes) buffer)
+  unfolding placed
+  grouped = append-assoc (take at buffer) bytes (drop (at + length bytes) buffer)
+
+  pub placed-before : take at (placed buffer at bytes) ≡ take at buffer
+  placed-before = ap (take at) grouped ∙ take-at (take at buffer) (bytes ++ drop (at + length bytes) buffer) at (length-take-le at buffer h)
+
+  pub placed-there : take (length bytes) (drop at (placed buffer at bytes)) ≡ bytes
+  placed-there =
+      ap (λ (xs : List ℕ). take (length bytes) (drop at xs)) grouped
+      ∙ ap (take (length bytes)) (drop-at (take at buffer) (bytes ++ drop (at + length bytes) buffer) at (length-take-le at buffer h))
+      ∙ take-at bytes (drop (at + length bytes) buffer) (length bytes) refl
+
+  pub placed-behind : drop (at + length bytes) (placed buffer at bytes) ≡ drop (at + length bytes) buffer
+  placed-behind = kept {before = buffer} {bytes = bytes} h (record { contents = refl; offset = refl })

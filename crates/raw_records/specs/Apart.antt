@@ -17,8 +17,7 @@ use Rattle.runs.specs.Lent.{principalsFit}
 use Rattle.realm.specs.declared.header.Realm.{Realm}
 use Rattle.realm.specs.declared.input.Uses.{Uses}
 use Rattle.realm.specs.Input.{usesOf, unusedZero, inRange, inputRefusal}
-use Rattle.raw_records.specs.Refusals.{first, first-none, termRefusal, roomy, stepRefusal, ownRefusal}
-use Rattle.raw_records.specs.Capped.{stepFields}
+use Rattle.raw_records.specs.Refusals.{first, first-none, termRefusal, roomy, stepFields, stepRefusal, ownRefusal}
 use Rattle.raw_records.specs.Calls.{rawFor}
 
 -- ---- definitions

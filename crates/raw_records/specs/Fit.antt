@@ -18,8 +18,7 @@ use Rattle.records.specs.Records.{termMark, stepMark}
 use Rattle.raw_records.specs.declared.raw.RawRecord.{RawRecord}
 use Rattle.raw_records.specs.declared.raw.RawRecord.the-variants.{Term, Step, Unknown}
 use Rattle.raw_records.specs.Raw.{rawBy, recordsOf}
-use Rattle.raw_records.specs.Refusals.{first-zero, usesRight, limitOf, termRefusal, roomy, stepRefusal, ownRefusal, recordsRefusal}
-use Rattle.raw_records.specs.Capped.{stepFields}
+use Rattle.raw_records.specs.Refusals.{first-zero, usesRight, limitOf, termRefusal, roomy, stepFields, stepRefusal, ownRefusal, recordsRefusal}
 use Rattle.raw_records.specs.Calls.{RawSized, AllRawSized}
 
 -- every number is a word

@@ -38,60 +38,59 @@ rawAt words at =
 
 -- ---- laws: record by record
 
-module _ where
-  seven : (rest : List ℕ) → 7 ≤ length rest → recordsOf rest ≡ rawAt rest 0 ∷ recordsOf (drop 7 rest)
-  unfolding recordsOf
-  seven [] h = absurd (omega arith)
-  seven (_ ∷ []) h = absurd (omega arith)
-  seven (_ ∷ _ ∷ []) h = absurd (omega arith)
-  seven (_ ∷ _ ∷ _ ∷ []) h = absurd (omega arith)
-  seven (_ ∷ _ ∷ _ ∷ _ ∷ []) h = absurd (omega arith)
-  seven (_ ∷ _ ∷ _ ∷ _ ∷ _ ∷ []) h = absurd (omega arith)
-  seven (_ ∷ _ ∷ _ ∷ _ ∷ _ ∷ _ ∷ []) h = absurd (omega arith)
-  seven (mark ∷ u ∷ v ∷ w ∷ x ∷ y ∷ z ∷ rest) h = refl
+seven : (rest : List ℕ) → 7 ≤ length rest → recordsOf rest ≡ rawAt rest 0 ∷ recordsOf (drop 7 rest)
+unfolding recordsOf
+seven [] h = absurd (omega arith)
+seven (_ ∷ []) h = absurd (omega arith)
+seven (_ ∷ _ ∷ []) h = absurd (omega arith)
+seven (_ ∷ _ ∷ _ ∷ []) h = absurd (omega arith)
+seven (_ ∷ _ ∷ _ ∷ _ ∷ []) h = absurd (omega arith)
+seven (_ ∷ _ ∷ _ ∷ _ ∷ _ ∷ []) h = absurd (omega arith)
+seven (_ ∷ _ ∷ _ ∷ _ ∷ _ ∷ _ ∷ []) h = absurd (omega arith)
+seven (mark ∷ u ∷ v ∷ w ∷ x ∷ y ∷ z ∷ rest) h = refl
 
-  front : (words : List ℕ) (at : ℕ) → getD (drop at words) 0 0 ≡ getD words at 0
-  front words at = getD-drop at words 0 0 ∙ ap (λ (k : ℕ). getD words k 0) (omega arith)
+front : (words : List ℕ) (at : ℕ) → getD (drop at words) 0 0 ≡ getD words at 0
+front words at = getD-drop at words 0 0 ∙ ap (λ (k : ℕ). getD words k 0) (omega arith)
 
-  raw-later : (words : List ℕ) (at : ℕ) → rawAt (drop at words) 0 ≡ rawAt words at
-  raw-later words at =
-      rw (
-        front words at,
-        getD-drop at words 1 0,
-        getD-drop at words 2 0,
-        getD-drop at words 3 0,
-        getD-drop at words 4 0,
-        getD-drop at words 5 0,
-        getD-drop at words 6 0,
-      )
+raw-later : (words : List ℕ) (at : ℕ) → rawAt (drop at words) 0 ≡ rawAt words at
+raw-later words at =
+    rw (
+      front words at,
+      getD-drop at words 1 0,
+      getD-drop at words 2 0,
+      getD-drop at words 3 0,
+      getD-drop at words 4 0,
+      getD-drop at words 5 0,
+      getD-drop at words 6 0,
+    )
 
-  -- the next record, and those after it
-  pub record-next : (words : List ℕ) (i : ℕ) → i * 7 + 7 ≤ length words
-      → recordsOf (drop (i * 7) words) ≡ rawAt words (i * 7) ∷ recordsOf (drop ((i + 1) * 7) words)
-  record-next words i h =
-      seven (drop (i * 7) words) (omega (arith, length-drop (i * 7) words))
-      ∙ ap (λ (raw : RawRecord). raw ∷ recordsOf (drop 7 (drop (i * 7) words))) (raw-later words (i * 7))
-      ∙ ap (λ (rest : List ℕ). rawAt words (i * 7) ∷ recordsOf rest) (drop-drop 7 (i * 7) words)
-      ∙ ap (λ (k : ℕ). rawAt words (i * 7) ∷ recordsOf (drop k words)) (next i)
-    where
-      next : (i : ℕ) → i * 7 + 7 ≡ (i + 1) * 7
-      next i = omega arith
+-- the next record, and those after it
+pub record-next : (words : List ℕ) (i : ℕ) → i * 7 + 7 ≤ length words
+    → recordsOf (drop (i * 7) words) ≡ rawAt words (i * 7) ∷ recordsOf (drop ((i + 1) * 7) words)
+record-next words i h =
+    seven (drop (i * 7) words) (omega (arith, length-drop (i * 7) words))
+    ∙ ap (λ (raw : RawRecord). raw ∷ recordsOf (drop 7 (drop (i * 7) words))) (raw-later words (i * 7))
+    ∙ ap (λ (rest : List ℕ). rawAt words (i * 7) ∷ recordsOf rest) (drop-drop 7 (i * 7) words)
+    ∙ ap (λ (k : ℕ). rawAt words (i * 7) ∷ recordsOf (drop k words)) (next i)
+  where
+    next : (i : ℕ) → i * 7 + 7 ≡ (i + 1) * 7
+    next i = omega arith
 
-  pub none-left : (rest : List ℕ) → length rest ≡ 0 → recordsOf rest ≡ []
-  unfolding recordsOf
-  none-left [] h = refl
-  none-left (_ ∷ _) h = absurd (omega arith)
+pub none-left : (rest : List ℕ) → length rest ≡ 0 → recordsOf rest ≡ []
+unfolding recordsOf
+none-left [] h = refl
+none-left (_ ∷ _) h = absurd (omega arith)
 
-  pub cut-short : (rest : List ℕ) → 0 < length rest → length rest < 7 → recordsOf rest ≡ Unknown ∷ []
-  unfolding recordsOf
-  cut-short [] p h = absurd (omega arith)
-  cut-short (_ ∷ []) p h = refl
-  cut-short (_ ∷ _ ∷ []) p h = refl
-  cut-short (_ ∷ _ ∷ _ ∷ []) p h = refl
-  cut-short (_ ∷ _ ∷ _ ∷ _ ∷ []) p h = refl
-  cut-short (_ ∷ _ ∷ _ ∷ _ ∷ _ ∷ []) p h = refl
-  cut-short (_ ∷ _ ∷ _ ∷ _ ∷ _ ∷ _ ∷ []) p h = refl
-  cut-short (_ ∷ _ ∷ _ ∷ _ ∷ _ ∷ _ ∷ _ ∷ _) p h = absurd (omega arith)
+pub cut-short : (rest : List ℕ) → 0 < length rest → length rest < 7 → recordsOf rest ≡ Unknown ∷ []
+unfolding recordsOf
+cut-short [] p h = absurd (omega arith)
+cut-short (_ ∷ []) p h = refl
+cut-short (_ ∷ _ ∷ []) p h = refl
+cut-short (_ ∷ _ ∷ _ ∷ []) p h = refl
+cut-short (_ ∷ _ ∷ _ ∷ _ ∷ []) p h = refl
+cut-short (_ ∷ _ ∷ _ ∷ _ ∷ _ ∷ []) p h = refl
+cut-short (_ ∷ _ ∷ _ ∷ _ ∷ _ ∷ _ ∷ []) p h = refl
+cut-short (_ ∷ _ ∷ _ ∷ _ ∷ _ ∷ _ ∷ _ ∷ _) p h = absurd (omega arith)
 
 module _ (mark u v w x y z : ℕ) where
   pub raw-term : mark ≡ termMark → Term u v w ≡ rawBy mark u v w x y z

@@ -42,8 +42,12 @@ termRefusal n kind l r = cond (ltb 6 kind) 4 (cond (usesRight kind || eqb r 0) (
 abbrev pub roomy : (n : ℕ) → Realm
 roomy n = record { n = n; flags = 0; ls = 0; la = 0; clock = 0; terms = 65536; runs = 256; entries = 0 }
 
+abbrev pub stepFields : (step run a b m t : ℕ) → fields.Step
+stepFields step run a b m t = record { step = step; run = run; a = a; b = b; m = m; t = t }
+
+-- the rules of the fields of a step, in it
 abbrev pub stepRefusal : (n step run a b m t : ℕ) → ℕ
-stepRefusal n step run a b m t = inputRefusal (roomy n) (record { step = step; run = run; a = a; b = b; m = m; t = t })
+stepRefusal n step run a b m t = inputRefusal (roomy n) (stepFields step run a b m t)
 
 -- ---- a record
 
@@ -91,17 +95,12 @@ module _ (n kind l r : ℕ) where
     unfolding termRefusal
     right-unused e = rw (le-ltb 6 kind known, e)
 
-    module _ (used : (usesRight kind || eqb r 0) ≡ true) {limit : ℕ} (is : limit ≡ limitOf n kind) where
-      pub term-passes : (ltb l limit && ltb r 65536) ≡ true → 0 ≡ termRefusal n kind l r
-      unfolding termRefusal
-      term-passes e = by-tests (ltb 6 kind) (usesRight kind || eqb r 0) (ltb l (limitOf n kind) && ltb r 65536) (le-ltb 6 kind known) used (ap (λ (k : ℕ). ltb l k && ltb r 65536) (sym is) ∙ e)
-        where
-          by-tests : (a b c : Bool) → a ≡ false → b ≡ true → c ≡ true → _≡_ {A = ℕ} 0 (cond a 4 (cond b (cond c 0 6) 5))
-          by-tests a b c x y z = rw (x, y, z)
-
-      pub term-out : (ltb l limit && ltb r 65536) ≡ false → 6 ≡ termRefusal n kind l r
-      unfolding termRefusal
-      term-out e = by-tests (ltb 6 kind) (usesRight kind || eqb r 0) (ltb l (limitOf n kind) && ltb r 65536) (le-ltb 6 kind known) used (ap (λ (k : ℕ). ltb l k && ltb r 65536) (sym is) ∙ e)
-        where
-          by-tests : (a b c : Bool) → a ≡ false → b ≡ true → c ≡ false → _≡_ {A = ℕ} 6 (cond a 4 (cond b (cond c 0 6) 5))
-          by-tests a b c x y z = rw (x, y, z)
+    pub right-used : (usesRight kind || eqb r 0) ≡ true → {limit : ℕ} → limit ≡ limitOf n kind → (c : Bool) → (ltb l limit && ltb r 65536) ≡ c
+        → cond c 0 6 ≡ termRefusal n kind l r
+    unfolding termRefusal
+    right-used used is c e =
+        by-tests (ltb 6 kind) (usesRight kind || eqb r 0) (ltb l (limitOf n kind) && ltb r 65536) (le-ltb 6 kind known) used
+        (ap (λ (k : ℕ). ltb l k && ltb r 65536) (sym is) ∙ e)
+      where
+        by-tests : (a b d : Bool) → a ≡ false → b ≡ true → d ≡ c → _≡_ {A = ℕ} (cond c 0 6) (cond a 4 (cond b (cond d 0 6) 5))
+        by-tests a b d x y z = rw (x, y, z)

@@ -13,7 +13,7 @@ use Rattle.records.specs.Headers.{headerBytes}
 use Rattle.records.specs.Calls.{Ending, Calls, callsOf, CallAt}
 use Rattle.raw_records.specs.Calls.{callWords, wordsFor}
 use Rattle.fields.specs.Placed.{placed, Wrote, joined, wrote-as}
-use Rattle.writer.specs.Progress.{part-wrote, nothing-wrote}
+use Rattle.fields.specs.Parts.{part-wrote, nothing-wrote}
 use Rattle.rewriting.specs.Reading.{readOutcome, answerBy, fileWords, readOf}
 
 -- the words of the records before `at` stand at the front

@@ -18,12 +18,12 @@ use Rattle.records.specs.Promises.{header-read}
 use Rattle.raw_records.specs.Raw.{recordsOf}
 use Rattle.raw_records.specs.Refusals.{recordsRefusal}
 use Rattle.raw_records.specs.Calls.{rawFor, wordsFor, records-for}
+use Rattle.fields.specs.Placed.{placed-there}
 use Rattle.writer.specs.declared.walk.Filing.{Filing}
 use Rattle.writer.specs.declared.walk.Filing.the-variants as filing
 use Rattle.writer.specs.Write.{WriteOutcome, writeOutcome, writeOf, WalkPasses}
 use Rattle.written_walks.specs.Promises.{written-passes, write-back}
 use Rattle.written_walks.specs.ReadBack.{ReadsAs}
-use Rattle.written_walks.specs.Stands.{part-is}
 use Rattle.comparison.specs.declared.Verdict.{Verdict}
 use Rattle.comparison.specs.declared.Verdict.the-variants.{Same}
 use Rattle.comparison.specs.Compare.{difference}
@@ -86,7 +86,7 @@ module _ (file : List ℕ) where
       ∙ ap (λ (cs : Calls). writtenBack (w .n) (w .flags) (w .ls) (w .la) (wordsFor (cs .calls)) file) (w .reads .records)
       ∙ sym (compared-is (w .n) (w .flags) (w .ls) (w .la) (wordsFor (w .calls)) file
       (sym (write-back file b (w .n) (w .flags) (w .ls) (w .la) (w .calls) (w .reads) (w .header-passes) (w .records-pass) (replicate places 0) offset (omega (arith, most, long)))))
-      ∙ ap (λ (xs : List ℕ). Compared (difference 1 xs file)) (part-is (replicate places 0) offset file (omega (arith, long)))
+      ∙ ap (λ (xs : List ℕ). Compared (difference 1 xs file)) (placed-there (replicate places 0) offset file (omega (arith, long)))
       ∙ ap Compared (itself 1 file)
 
   -- and no other file is written.

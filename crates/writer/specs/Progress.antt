@@ -4,15 +4,15 @@ use mathlib.Core.Path.{_≡_, refl, sym, ap, _∙_}
 use mathlib.Core.List.{List, [], _∷_, _++_, append-assoc, append-nil}
 use Prim.Native.Nat.{ℕ, zero, suc, _+_, _*_, _-_, _/_, _<_, _≤_}
 use native.Mathlib.Omega.{arith}
-use lib.ListN.{length, take, drop, length-append, length-drop, take-append-drop, drop-of-length-le}
-use lib.Seq.{take-all, drop-drop}
-use borrow.Rule.Slice.PartMut.{midOf, putMid, mid-len}
+use lib.ListN.{length, drop, length-append, length-drop}
+use borrow.Rule.Slice.PartMut.{midOf, putMid}
 use Rattle.records.specs.Headers.{maxFile}
 use Rattle.raw_records.specs.declared.raw.RawRecord.{RawRecord}
 use Rattle.raw_records.specs.declared.raw.RawRecord.the-variants.{Term, Step, Unknown}
 use Rattle.raw_records.specs.Raw.{recordsOf, rawAt, record-next, none-left, cut-short}
 use Rattle.raw_records.specs.Passing.{recordsFrom}
-use Rattle.fields.specs.Placed.{placed, Wrote, joined, wrote-as}
+use Rattle.fields.specs.Parts.{part-wrote, nothing-wrote}
+use Rattle.fields.specs.Placed.{Wrote, joined, wrote-as}
 use Rattle.writer.specs.File.{low, high, headerInBytes, recordInBytes, recordsInBytes}
 
 -- ---- definitions
@@ -65,44 +65,7 @@ measured-above r bytes h l = record { exact = λ s. absurd (omega arith); above 
 pub measured-end : (r bytes : ℕ) → r ≡ bytes → Measures r bytes
 measured-end r bytes e = record { exact = λ s. e; above = λ s. omega arith }
 
--- ---- one record into a part of the buffer
-
-from-zero : (k : ℕ) → 0 + k ≡ k
-from-zero k = omega arith
-
--- what a copy to the front of a lent part leaves there
-pub copied : (xs bytes : List ℕ) {b : List ℕ} {n : ℕ} {after : List ℕ} → b ≡ bytes → n ≡ length b → after ≡ take (length b) b ++ drop (length b) xs
-    → Wrote xs 0 bytes after n
-unfolding placed
-copied xs bytes {b} {n} {after} e l p = record {
-  contents = p ∙ ap (λ (u : List ℕ). u ++ drop (length b) xs) (take-all (length b) b (omega arith)) ∙ ap (λ (u : List ℕ). u ++ drop (length u) xs) e
-      ∙ ap (λ (k : ℕ). bytes ++ drop k xs) (sym (from-zero (length bytes)));
-  offset = l ∙ ap (λ (u : List ℕ). length u) e ∙ sym (from-zero (length bytes));
-}
-
--- the part's front is the whole's place
-pub part-wrote : (xs : List ℕ) (at : ℕ) (bytes : List ℕ) {part : List ℕ} {n : ℕ} → Wrote (midOf at (length xs - at) xs) 0 bytes part n
-    → Wrote xs at bytes (putMid at (length xs - at) xs part) (at + n)
-unfolding placed
-part-wrote xs at bytes {part} {n} w =
-    let rest : List ℕ = drop at xs in
-    let whole : length rest ≤ length xs - at = omega (arith, length-drop at xs) in
-    record {
-      contents =
-          rw (
-            w .contents,
-            from-zero (length bytes),
-            take-all (length xs - at) rest whole,
-            drop-of-length-le rest whole,
-            append-nil (bytes ++ drop (length bytes) rest),
-            drop-drop (length bytes) at xs,
-          )
-          (sym (append-assoc (take at xs) bytes (drop (at + length bytes) xs)));
-      offset = ap (λ (k : ℕ). at + k) (w .offset ∙ from-zero (length bytes));
-    }
-
-pub part-room : (xs : List ℕ) (at k : ℕ) → at + k ≤ length xs → k ≤ length (midOf at (length xs - at) xs)
-part-room xs at k h = omega (arith, mid-len at (length xs) xs (omega arith))
+-- ---- one record
 
 module _ (kind l r : ℕ) where
   pub term-bytes : {b₂ b₃ b₄ b₅ b₆ : ℕ} → b₂ ≡ low kind → b₃ ≡ high l → b₄ ≡ low l → b₅ ≡ high r → b₆ ≡ low r
@@ -131,17 +94,6 @@ module _ (n flags ls la : ℕ) where
       → 0x48 ∷ 0x44 ∷ n ∷ b₃ ∷ b₄ ∷ b₅ ∷ b₆ ∷ b₇ ∷ b₈ ∷ b₉ ∷ c₀ ∷ c₁ ∷ c₂ ∷ [] ≡ headerInBytes n flags ls la
   unfolding headerInBytes
   header-bytes e₃ e₄ e₅ e₆ e₇ e₈ e₉ f₀ f₁ f₂ = rw (e₃, e₄, e₅, e₆, e₇, e₈, e₉, f₀, f₁, f₂)
-
-pub nothing-wrote : (xs : List ℕ) (at : ℕ) → Wrote xs at [] xs (at + 0)
-unfolding placed
-nothing-wrote xs at = record {
-  contents = sym (take-append-drop at xs) ∙ ap (λ (k : ℕ). take at xs ++ drop k xs) (plain at)
-      ∙ ap (λ (u : List ℕ). u ++ drop (at + 0) xs) (sym (append-nil (take at xs)));
-  offset = refl;
-}
-  where
-    plain : (at : ℕ) → at ≡ at + 0
-    plain at = omega arith
 
 pub unknown-wrote : (xs : List ℕ) {raw : RawRecord} → raw ≡ Unknown → Wrote xs 0 (recordInBytes raw) xs 0
 unfolding recordInBytes

@@ -1,13 +1,12 @@
 -- What an answer of `writeOf` says: with a count, that the walk passed and where its bytes stand; with a number, that nothing changed.
 -- Assumes nothing.
 use mathlib.Core.Path.{_≡_, refl, sym, ap, _∙_}
-use mathlib.Core.List.{List, _++_, append-assoc}
+use mathlib.Core.List.{List}
 use Prim.Native.Nat.{ℕ, zero, suc, _+_, _≤_}
 use native.Mathlib.Omega.{arith}
 use lib.ListN.{length, take, drop}
-use lib.Seq.{length-take-le, take-at, drop-at}
 use Rattle.raw_records.specs.Raw.{recordsOf}
-use Rattle.fields.specs.Placed.{placed, Wrote, kept}
+use Rattle.fields.specs.Placed.{placed, placed-before, placed-there, placed-behind}
 use Rattle.writer.specs.declared.walk.Filing.the-variants.{Written, Refused}
 use Rattle.writer.specs.File.{fileOf}
 use Rattle.writer.specs.Write.{WriteOutcome, writeOutcome, writeRefusal, byRefusal, writeOf, WalkPasses, zero-passes}
@@ -36,26 +35,6 @@ kept-by zero buffer at file number after e =
     absurd (omega arith)
 kept-by (suc k) buffer at file number after e = sym (ap (λ (o : WriteOutcome). o .buffer) e)
 
-module _ (buffer : List ℕ) (at : ℕ) (file : List ℕ) (h : at ≤ length buffer) where
-  pub part-is : take (length file) (drop at (placed buffer at file)) ≡ file
-  unfolding placed
-  part-is =
-      ap (λ (xs : List ℕ). take (length file) (drop at xs)) (append-assoc (take at buffer) file (drop (at + length file) buffer))
-      ∙ ap (λ (xs : List ℕ). take (length file) xs) (drop-at (take at buffer) (file ++ drop (at + length file) buffer) at (length-take-le at buffer h))
-      ∙ take-at file (drop (at + length file) buffer) (length file) refl
-
-  before-is : take at (placed buffer at file) ≡ take at buffer
-  unfolding placed
-  before-is =
-      ap (λ (xs : List ℕ). take at xs) (append-assoc (take at buffer) file (drop (at + length file) buffer))
-      ∙ take-at (take at buffer) (file ++ drop (at + length file) buffer) at (length-take-le at buffer h)
-
-  behind-is : drop (at + length file) (placed buffer at file) ≡ drop (at + length file) buffer
-  behind-is = kept h wrote
-    where
-      wrote : Wrote buffer at file (placed buffer at file) (at + length file)
-      wrote = record { contents = refl; offset = refl }
-
 module _ (n flags ls la : ℕ) (words buffer : List ℕ) (at : ℕ) where
   abbrev file : List ℕ
   file = fileOf n flags ls la (recordsOf words)
@@ -78,13 +57,13 @@ module _ (n flags ls la : ℕ) (words buffer : List ℕ) (at : ℕ) where
     pub file-at : take count (drop at after) ≡ file
     file-at =
         ap (λ (k : ℕ). take k (drop at after)) (d .count-is) ∙ ap (λ (xs : List ℕ). take (length file) (drop at xs)) (d .after-is)
-        ∙ part-is buffer at file within
+        ∙ placed-there buffer at file within
 
     -- and those before it and behind it are the buffer's
     pub before-kept : take at after ≡ take at buffer
-    before-kept = ap (λ (xs : List ℕ). take at xs) (d .after-is) ∙ before-is buffer at file within
+    before-kept = ap (λ (xs : List ℕ). take at xs) (d .after-is) ∙ placed-before buffer at file within
 
     pub behind-kept : drop (at + count) after ≡ drop (at + count) buffer
     behind-kept =
-        ap (λ (k : ℕ). drop (at + k) after) (d .count-is) ∙ ap (λ (xs : List ℕ). drop (at + length file) xs) (d .after-is) ∙ behind-is buffer at file within
+        ap (λ (k : ℕ). drop (at + k) after) (d .count-is) ∙ ap (λ (xs : List ℕ). drop (at + length file) xs) (d .after-is) ∙ placed-behind buffer at file within
         ∙ ap (λ (k : ℕ). drop (at + k) buffer) (sym (d .count-is))

@@ -7,7 +7,7 @@ use lib.ListN.{length}
 use borrow.Author.Needs.{needs}
 use Rattle.records.specs.Calls.{CallAt}
 use Rattle.records.specs.Promises.{step-on, ends, none-left, breaks}
-use Rattle.writer.specs.Progress.{part-room}
+use Rattle.fields.specs.Parts.{part-room}
 use Rattle.rewriting.specs.Progress.{ReadProgress, seven, starts, next-fits, goes-on, finishes}
 use Rattle.rewriting.proofs.reading.read_words.Statement.{statement}
 use Rattle.rewriting.proofs.reading.read_words.Tie as tie

@@ -1,6 +1,7 @@
 -- `writer::record::write_header` meets its contract. Assumes nothing.
 use borrow.Author.Needs.{needs}
-use Rattle.writer.specs.Progress.{copied, header-bytes}
+use Rattle.fields.specs.Parts.{copied}
+use Rattle.writer.specs.Progress.{header-bytes}
 use Rattle.writer.proofs.record.write_header.Statement.{statement}
 use Rattle.writer.proofs.record.write_header.Tie as tie
 

@@ -1,6 +1,7 @@
 -- `writer::record::write_step` meets its contract. Assumes nothing.
 use borrow.Author.Needs.{needs}
-use Rattle.writer.specs.Progress.{copied, step-bytes}
+use Rattle.fields.specs.Parts.{copied}
+use Rattle.writer.specs.Progress.{step-bytes}
 use Rattle.writer.proofs.record.write_step.Statement.{statement}
 use Rattle.writer.proofs.record.write_step.Tie as tie
 

@@ -1,6 +1,7 @@
 -- `writer::record::write_term` meets its contract. Assumes nothing.
 use borrow.Author.Needs.{needs}
-use Rattle.writer.specs.Progress.{copied, term-bytes}
+use Rattle.fields.specs.Parts.{copied}
+use Rattle.writer.specs.Progress.{term-bytes}
 use Rattle.writer.proofs.record.write_term.Statement.{statement}
 use Rattle.writer.proofs.record.write_term.Tie as tie
 

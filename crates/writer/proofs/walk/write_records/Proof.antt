@@ -4,7 +4,8 @@ use Prim.Native.Nat.{_≤_, _-_}
 use mathlib.Core.Path.{_≡_, refl}
 use lib.ListN.{length}
 use borrow.Author.Needs.{needs}
-use Rattle.writer.specs.Progress.{Progress, part-room, starts, end-within, next-fits, goes-on, finishes}
+use Rattle.fields.specs.Parts.{part-room}
+use Rattle.writer.specs.Progress.{Progress, starts, end-within, next-fits, goes-on, finishes}
 use Rattle.writer.proofs.walk.write_records.Statement.{statement}
 use Rattle.writer.proofs.walk.write_records.Tie as tie
 
