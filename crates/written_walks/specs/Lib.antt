@@ -2,3 +2,4 @@
 pub mod Promises
 pub mod Stands
 pub mod ReadBack
+pub mod Examples
