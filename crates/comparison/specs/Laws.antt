@@ -47,15 +47,15 @@ module _ (line : ℕ) (a b : List ℕ) (i : ℕ) where
 -- ---- the totals
 
 -- no more than so many comparisons were made, and no more failed
-pub record Within (t : Totals) (limit : ℕ) : Type 0 where
+pub record TotalsWithin (t : Totals) (limit : ℕ) : Type 0 where
   pub few : t .compared ≤ limit
   pub fewer : t .differ ≤ t .compared
 
-pub within-later : (t : Totals) (limit next : ℕ) → limit < next → Within t limit → Within t next
+pub within-later : (t : Totals) (limit next : ℕ) → limit < next → TotalsWithin t limit → TotalsWithin t next
 within-later t limit next h w = record { few = omega (arith, w .few); fewer = w .fewer }
 
 -- one comparison more
-pub within-next : (t r : Totals) (limit next : ℕ) → limit < next → Within t limit → (agrees : Bool)
-    → (r .compared ≡ t .compared + 1) × (r .differ ≡ t .differ + disagreements agrees) → Within r next
+pub within-next : (t r : Totals) (limit next : ℕ) → limit < next → TotalsWithin t limit → (agrees : Bool)
+    → (r .compared ≡ t .compared + 1) × (r .differ ≡ t .differ + disagreements agrees) → TotalsWithin r next
 within-next t r limit next h w true e = record { few = omega (arith, w .few, e .0); fewer = omega (arith, w .fewer, e .0, e .1) }
 within-next t r limit next h w false e = record { few = omega (arith, w .few, e .0); fewer = omega (arith, w .fewer, e .0, e .1) }

@@ -27,7 +27,7 @@ use Rattle.decisions.specs.Refusals.{refusalsOf, allOf}
 -- "remember then 18 or 19 as in step 5": a delivery that none of 4 to 17 bars is refused with the number that `remember` of b, K
 -- and Ta answers, and taken where it answers none
 pub use Rattle.decisions.specs.Laws.Exact.{remembers, delivered}
--- its fields are looked at first
+-- the fields of a step are looked at first
 pub use Rattle.decisions.specs.Laws.Refusals.{fields-refuse}
 
 -- a step has the refusals that the tables name for it, 4 to 6 and 20, and no other

@@ -2,13 +2,13 @@
 use Prim.Native.Nat.{_-_, _<_}
 use native.Mathlib.Omega.{arith}
 use lib.ListN.{length}
-use Rattle.comparison.specs.Laws.{Within, within-later, within-next}
+use Rattle.comparison.specs.Laws.{TotalsWithin, within-later, within-next}
 use borrow.Author.Needs.{needs}
 use Rattle.vectors.proofs.run.Statement.{statement}
 use Rattle.vectors.proofs.run.Tie as tie
 
 abbrev Inv-loop : tie.InvT-loop
-Inv-loop list first listings₀ writings₀ at₀ listings writings at = Within listings at × Within writings at
+Inv-loop list first listings₀ writings₀ at₀ listings writings at = TotalsWithin listings at × TotalsWithin writings at
 
 abbrev μ-loop : tie.MeasureT-loop
 μ-loop list first listings₀ writings₀ at₀ listings writings at = length list - at
@@ -19,7 +19,7 @@ further : (c : tie.After-counted Inv-loop μ-loop)
 further c = omega (arith, c .before .before .before .before .before .before .line-after .ensures .0, c .before .before .before .before .line-after2 .ensures .0)
 
 -- its listing is counted
-listed : (c : tie.After-counted Inv-loop μ-loop) → Within (c .counted .result) (c .before .before .before .before .line-after2 .result)
+listed : (c : tie.After-counted Inv-loop μ-loop) → TotalsWithin (c .counted .result) (c .before .before .before .before .line-after2 .result)
 listed c = within-next _ _ _ _ (further c) (c .before .before .before .before .before .before .before .before .loop .inv .0) (c .before .look .result .agrees) (c .counted .ensures)
 
 loop-less : tie.Need-loop-less Inv-loop μ-loop
