@@ -2,11 +2,12 @@
 -- change 1), of the public call and of a walk that was written. What depends on the walk is `present` of `raw_records`: a run and a
 -- term that are used are walkHas, and a lock's key is a key. Answers and Walks have the two definitions.
 -- Assumes nothing.
-use mathlib.Core.Path.{_≡_, refl, sym, _∙_}
+use mathlib.Core.Path.{_≡_, refl, sym, ap, _∙_}
 use mathlib.Core.Bool.{false}
-use mathlib.Core.List.{List}
+use mathlib.Core.List.{List, _++_}
 use Prim.Native.Nat.{ℕ, _^_, _<_}
 use native.Mathlib.Omega.{arith}
+use lib.ListN.{take, drop}
 use Rattle.exchange.specs.declared.call.Answer.the-variants.{Refused}
 use Rattle.exchange.specs.declared.call.Call.{Call}
 use Rattle.exchange.specs.Calls.{Sized}
@@ -16,6 +17,7 @@ use Rattle.realm.specs.Opening.{newRealm, openingOf, opened}
 use Rattle.realm.specs.Promises.{new-together}
 use Rattle.realm.specs.Tables.{Tables, Together}
 use Rattle.effects.specs.Apply.{refuse}
+use Rattle.records.specs.Calls.{Calls, ended}
 use Rattle.raw_records.specs.Apart.{walkHas}
 use Rattle.raw_records.specs.Calls.{callsFrom, rawFor}
 use Rattle.raw_records.specs.Fit.{Words32}
@@ -24,8 +26,9 @@ use Rattle.raw_records.specs.Raw.{recordsOf}
 use Rattle.raw_records.specs.Refusals.{ownRefusal}
 use Rattle.writer.specs.declared.walk.Filing.the-variants.{Written}
 use Rattle.writer.specs.Write.{writeOutcome, writeOf}
-use Rattle.written_walks.specs.Promises.{written-passes}
-use Rattle.walkfile.specs.Listing.{newTables}
+use Rattle.written_walks.specs.Promises.{written-passes, read-back}
+use Rattle.lines.specs.Lines.{headerLine}
+use Rattle.walkfile.specs.Listing.{newTables, callLines, walkLines, openingLines, headerLines, listingOf}
 use Rattle.walkfile.specs.Opened.{lends}
 use Rattle.calls.specs.Lent.{lentCall}
 use Rattle.calls.specs.Same.{lent-called}
@@ -66,3 +69,12 @@ module _ (n flags ls la : ℕ) (n-fits : n < 2 ^ 8) (ls-fits : ls < 2 ^ 32) (la-
       let p = written-passes n flags ls la words buffer at count after e in
       walks.taken-past n (recordsOf words) (records-fit n n-fits words w (p .records)) (p .records) (newTables realm)
       (new-together n flags ls la realm (newTables realm) ls-fits la-fits walk-opens (lends realm)) refl
+
+  -- So the listing of its bytes has `ok` for the header, a line for each record in turn, and the last line: 1, 2 and 3 do not arise.
+  pub written-listed : flags < 2 ^ 16 → listingOf (take count (drop at after)) ≡ headerLine ++ callLines 1 (newTables realm) (callsFrom (recordsOf words)) ended
+  unfolding listingOf walkLines
+  written-listed flags-fits =
+      let r = read-back n flags ls la words buffer at count after e n-fits flags-fits ls-fits la-fits w in
+      let file = take count (drop at after) in
+      ap (headerLines file) (r .header) ∙ ap (openingLines file) walk-opens
+      ∙ ap (λ (cs : Calls). headerLine ++ callLines 1 (newTables realm) (cs .calls) (cs .ending)) (r .records)
