@@ -3,7 +3,7 @@
 use mathlib.Core.Path.{_≡_, refl, sym, ap, _∙_}
 use mathlib.Core.Logic.{_⊎_, inl, inr}
 use mathlib.Core.Bool.{Bool, true, false, cond}
-use Prim.Native.Nat.{ℕ, zero, suc, _≤_}
+use Prim.Native.Nat.{ℕ, _≤_}
 use native.Mathlib.Omega.{arith}
 use lib.Dec.{eqb}
 use lib.ListN.{length}
@@ -23,7 +23,7 @@ use Rattle.effects.specs.Call.{called, checked}
 use Rattle.raw_records.specs.Apart.{fieldsRefusal, walkHas}
 use Rattle.raw_records.specs.Calls.{rawFor}
 use Rattle.raw_records.specs.Promises.{fields-apart}
-use Rattle.raw_records.specs.Refusals.{first, ownRefusal}
+use Rattle.raw_records.specs.Refusals.{first, first-some, ownRefusal}
 use Rattle.calls.specs.Lent.{lentCall}
 use Rattle.written_answers.specs.Numbers.{ByFields, call-number, fields-told}
 
@@ -69,12 +69,8 @@ module _ (t : Tables) (few-runs : t .realm .runs ≤ 256) (few-terms : t .realm 
   pub called-barred : (own ≡ 0 → ⊥) → called t c ≡ refuse t own
   called-barred n = fields-told t c (λ z. n (sym is ∙ z)) ∙ ap (refuse t) is
     where
-      some : (k w : ℕ) → (k ≡ 0 → ⊥) → first k w ≡ k
-      some zero w s = absurd (s refl)
-      some (suc k) w s = refl
-
       is : of-fields ≡ own
-      is = split ∙ some own _ n
+      is = split ∙ sym (first-some own _ n)
 
 -- ---- the tables
 
