@@ -22,7 +22,7 @@ ghost use Rattle.worklist.specs.Found.{Room, Listed, asFound};
 ghost use Rattle.analysis.specs.Gives.{decryptOf, underOf, partsOf, givenOf};
 
 // Whether encryptions under key k can be opened: it is known or public.
-fn opens(terms: &[u64], flags: u16, set: &[u64], k: usize) -> bool
+fn opens(terms: &[u64], flags: u32, set: &[u64], k: usize) -> bool
     requires { ⌜ (length (now terms) ≡ 512) × (length (now set) ≡ 8) × (k < 512) ⌝ }
     ensures { λ r. ⌜ r ≡ opensOf flags (now (terms .entry)) (now (set .entry)) k ⌝ }
 {
@@ -73,7 +73,7 @@ fn decrypt_under(
 // Finds what a pair or an encryption gives.
 fn parts(
     terms: &[u64],
-    flags: u16,
+    flags: u32,
     set: &mut [u64],
     list: &mut [u16],
     found: usize,
@@ -101,7 +101,7 @@ fn parts(
 fn visit(
     terms: &[u64],
     count: usize,
-    flags: u16,
+    flags: u32,
     chains: &[u16],
     set: &mut [u64],
     list: &mut [u16],

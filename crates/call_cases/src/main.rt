@@ -14,7 +14,7 @@
 //   R  a run; one of its seven words; its value
 //   W  a word of the wire; its upper and its lower half
 //   E  a place of the cache; b, K and Ta of what it holds
-//   O  n, flags, Ls, La: opens a realm, in which the calls after it are made
+//   O  the mark, n, flags, Ls, La: opens a realm, in which the calls after it are made
 //   A  kind, L, R: adds a term
 //   S  step, run, a, b, m, t: takes a step
 //   M  b, K, Ta: remembers an entry, by the call of that name alone

@@ -21,6 +21,7 @@ use cases::print_changes;
 use cases::print_text;
 use exchange::call::Answer;
 use exchange::call::Call;
+use exchange::header::Header;
 use realm::header::Opening;
 use realm::header::Realm;
 use realm::header::open_realm;
@@ -54,12 +55,14 @@ fn tell(answer: Answer, before: World, after: World) -> World {
 
 // Opens a realm.
 fn open(w: World, line: Line) -> World {
-    match open_realm(
-        (line.a % 256) as u8,
-        (line.b % 65536) as u16,
-        line.c,
-        line.d,
-    ) {
+    let header = Header {
+        mark: (line.a % 65536) as u16,
+        n: (line.b % 256) as u8,
+        flags: line.c,
+        ls: line.d,
+        la: line.e,
+    };
+    match open_realm(header) {
         Opening::Open(h) => {
             let mut next = w;
             next.realm = h;

@@ -53,7 +53,7 @@ pub fn set_header(w: World, line: Line) -> World {
     let mut next = w;
     let mut h = w.realm;
     h.n = (line.a % 256) as u8;
-    h.flags = (line.b % 65536) as u16;
+    h.flags = line.b;
     h.ls = line.c;
     h.la = line.d;
     h.clock = line.e;

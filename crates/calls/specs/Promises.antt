@@ -21,6 +21,7 @@ use Rattle.kerberos.specs.Rules.{Takes}
 use Rattle.realm.specs.declared.header.Opening.the-variants.{Open}
 use Rattle.realm.specs.declared.header.Realm.{Realm}
 use Rattle.realm.specs.New.{Lends}
+use Rattle.exchange.specs.declared.header.Header.{Header}
 use Rattle.realm.specs.Opening.{header, openingOf}
 use Rattle.realm.specs.Tables.{Tables, Together}
 use Rattle.simulation.specs.Engine.{New, opened-new}
@@ -50,10 +51,10 @@ module _ (t u : Tables) (t-holds : Together t) (u-holds : Together u) (same : Al
 
 -- ---- every list of calls from a new realm: what `open_realm` gave, and the caller's own tables, whatever stands in their places
 
-module _ (n flags ls la : ℕ) (ls-fits : ls < 2 ^ 32) (la-fits : la < 2 ^ 32) (h : Realm) (opened : openingOf n flags ls la ≡ Open h)
+module _ (g : Header) (ls-fits : g .ls < 2 ^ 32) (la-fits : g .la < 2 ^ 32) (h : Realm) (opened : openingOf g ≡ Open h)
     (t : Tables) (lends : Lends h t) (cs : List Call) (sized : AllSized cs) where
   new : New (header h) t
-  new = opened-new n flags ls la h t ls-fits la-fits opened lends
+  new = opened-new g h t ls-fits la-fits opened lends
 
   -- Demand 3 holds of it,
   pub public-demand3 : Demand3 parallel (header h) (lentHistory t cs)

@@ -7,14 +7,14 @@ ghost use Rattle.deduction.specs.Public.{publicOf};
 // What deduction has to know of a realm: the number of principals, and which of them are bad.
 pub struct Principals {
     pub n: u16,
-    pub flags: u16,
+    pub flags: u32,
 }
 
 // The intruder's own nonces and session keys start here.
 pub const FIRST_OWN: u16 = 64;
 
 // Whether the intruder has a term without the wire.
-pub fn is_public(flags: u16, t: Term) -> bool
+pub fn is_public(flags: u32, t: Term) -> bool
     ensures { λ r. ⌜ r ≡ publicOf flags t ⌝ }
 {
     match t {

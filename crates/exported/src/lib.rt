@@ -4,6 +4,7 @@ use calls::Called;
 use calls::call;
 use exchange::call::Answer;
 use exchange::call::Call;
+use exchange::header::Header;
 use realm::header::Realm;
 use replay::entry::Entry;
 use walkfile::Listing;
@@ -145,18 +146,10 @@ pub struct Filed {
 // A header and a list of records as a walk file, into the buffer from an offset on: seven words a record, its mark and then its
 // fields in the order of the file. Nothing is required of what is lent.
 #[no_mangle]
-pub extern "C" fn pogandir_write(
-    n: u8,
-    flags: u16,
-    ls: u32,
-    la: u32,
-    words: &[u32],
-    out: &mut [u8],
-    at: usize,
-) -> Filed
-    ensures { λ r. ⌜ (r, now (out .exit)) ≡ filed (writeOf n flags ls la (now (words .entry)) (now (out .entry)) at) ⌝ }
+pub extern "C" fn pogandir_write(header: Header, words: &[u32], out: &mut [u8], at: usize) -> Filed
+    ensures { λ r. ⌜ (r, now (out .exit)) ≡ filed (writeOf header (now (words .entry)) (now (out .entry)) at) ⌝ }
 {
-    match write_walk(n, flags, ls, la, words, out, at) {
+    match write_walk(header, words, out, at) {
         Filing::Written(count) => Filed { refusal: 0, count },
         Filing::Refused(refusal) => Filed { refusal, count: 0 },
     }

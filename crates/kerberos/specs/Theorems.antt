@@ -13,7 +13,7 @@ use Rattle.exchange.specs.declared.call.Call.{Call}
 use Rattle.exchange.specs.declared.call.Call.the-variants.{Step}
 use Rattle.exchange.specs.Calls.{AllSized}
 use Rattle.exchange.specs.Needs.{needOf, meets}
-use Rattle.traces.specs.Realm.{Realm, Header}
+use Rattle.traces.specs.Realm.{Realm, HeaderPasses}
 use Rattle.traces.specs.RuleSets.{History, Reading}
 use Rattle.traces.specs.Engines.{Engine, history}
 use Rattle.traces.specs.Laws.Histories.{lawful}
@@ -30,7 +30,7 @@ pub demand3 : (f : Form) (R : Realm) (h : History) → Lawful f R h → Demand3 
 demand3 f R h w = agreement w
 
 -- So it holds of an engine, for every header that refusal 2 lets pass and every list of calls.
-pub engine-demand3 : (f : Form) (R : Realm) → Header R → (E : Engine (rules f) R) (cs : List Call) → AllSized cs → Demand3 f R (history (rules f) R E cs)
+pub engine-demand3 : (f : Form) (R : Realm) → HeaderPasses R → (E : Engine (rules f) R) (cs : List Call) → AllSized cs → Demand3 f R (history (rules f) R E cs)
 engine-demand3 f R header E cs z = agreement (lawful (rules f) R E header cs z)
 
 -- Rules and reading agree: a call is read as what the rules take it for.

@@ -7,11 +7,12 @@ use lib.ListN.{length}
 use Rattle.traces.specs.RuleSets.{History}
 use Rattle.exchange.specs.declared.call.Answer.{Answer}
 use Rattle.exchange.specs.declared.call.Call.{Call}
+use Rattle.fields.specs.Bytes.{bytes16}
 use Rattle.fields.specs.Fields.{ascii, decimal, field, markText, answerText}
 
--- "One line a record: its number from 0, its mark, then for HD `ok`": HD is the first record.
-unfoldable pub headerLine : List ℕ
-headerLine = ascii "0 HD ok\n"
+-- "One line a record: its number from 0, its mark, then for HD `ok`": the header is the first record, and each mark is treated alike.
+unfoldable pub headerLine : (mark : ℕ) → List ℕ
+headerLine mark = ascii "0 " ++ bytes16 mark ++ ascii " ok\n"
 
 -- TM and ST
 unfoldable pub callLine : (number : ℕ) → Call → Answer → List ℕ
@@ -27,9 +28,9 @@ endLine runs wire cache clock =
     field "end runs " runs ++ field " wire " wire ++ field " cache " cache ++ field " clock " clock ++ ascii "\n"
 
 -- the lines of the header and of a list of calls with their answers, the newest call first
-unfoldable pub listing : History → List ℕ
-listing [] = headerLine
-listing ((call, answer) ∷ earlier) = listing earlier ++ callLine (suc (length earlier)) call answer
+unfoldable pub listing : (mark : ℕ) → History → List ℕ
+listing mark [] = headerLine mark
+listing mark ((call, answer) ∷ earlier) = listing mark earlier ++ callLine (suc (length earlier)) call answer
 
 -- room for any line
 abbrev pub LONGEST : ℕ

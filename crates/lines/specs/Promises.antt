@@ -11,9 +11,9 @@ use Rattle.lines.specs.Lengths.{call-length, file-length, end-length}
 use Rattle.lines.specs.Lines.{headerLine, callLine, fileLine, endLine, LONGEST}
 
 -- The line of a record whose number is below 100,000 has at most 24 bytes, and the last line at most 64,
-pub header-short : length headerLine ≤ 24
+pub header-short : (mark : ℕ) → length (headerLine mark) ≤ 24
 unfolding headerLine
-header-short = omega arith
+header-short mark = omega arith
 
 pub call-short : (number : ℕ) (call : Call) (answer : Answer) → number < 100000 → Narrow answer → length (callLine number call answer) ≤ 24
 call-short number call answer h n = omega (arith, call-length 4 number call answer (omega (arith, h)) n)

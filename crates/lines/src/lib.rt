@@ -14,12 +14,15 @@ ghost use Rattle.lines.specs.Lines.{LONGEST, headerLine, callLine, fileL
 // Room for any line, the contracts' `LONGEST`: the last line with four numbers of ten digits.
 pub const MAX_LINE: usize = 70;
 
-// The line of the first record, where it was accepted.
-pub fn write_header_line(out: &mut [u8], at: usize) -> usize
+// The line of the first record, where it was accepted: its mark is two letters.
+pub fn write_header_line(out: &mut [u8], at: usize, mark: u16) -> usize
     requires { ⌜ at + LONGEST ≤ length (now out) ⌝ }
-    ensures { λ r. ⌜ Wrote (now (out .entry)) at headerLine (now (out .exit)) r ⌝ }
+    ensures { λ r. ⌜ Wrote (now (out .entry)) at (headerLine mark) (now (out .exit)) r ⌝ }
 {
-    write_text(out, at, b"0 HD ok\n")
+    let letters = [(mark / 256) as u8, (mark % 256) as u8];
+    let number_end = write_text(out, at, b"0 ");
+    let mark_end = write_text(out, number_end, &letters);
+    write_text(out, mark_end, b" ok\n")
 }
 
 // The line of a TM or ST record.

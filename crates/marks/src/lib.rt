@@ -77,10 +77,10 @@ pub fn load(set: &[u64]) -> [u64; 8]
 }
 
 // Whether the flags mark principal p: bit p is set.
-pub fn flagged(flags: u16, p: u16) -> bool
+pub fn flagged(flags: u32, p: u16) -> bool
     ensures { λ r. ⌜ r ≡ isSet flags p ⌝ }
 {
-    if 16 <= p {
+    if 32 <= p {
         return false;
     }
     flags >> p & 1 == 1

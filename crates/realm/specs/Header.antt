@@ -1,8 +1,8 @@
--- The test of a header says exactly that refusal 2 lets it pass, where its fields have the widths of the file.
+-- The test of a header says exactly that refusals 1 and 2 let it pass, where its fields have the widths of the file.
 -- Assumes nothing.
 use Prim.Native.Nat.{ℕ, zero, suc, _+_, _/_, _%_, _^_, _<_, _≤_}
-use mathlib.Core.Path.{_≡_, sym, ap, _∙_}
-use mathlib.Core.Bool.{Bool, true, false, not, _&&_, and-eq-true-iff}
+use mathlib.Core.Path.{_≡_, refl, sym, ap, _∙_}
+use mathlib.Core.Bool.{Bool, true, false, not, _&&_, cond, and-eq-true-iff}
 use mathlib.Core.Logic.{_≢_}
 use native.Mathlib.Nat.{div-le-self, div-lt-iff-lt-mul, pow-suc}
 use native.Mathlib.Omega.{arith}
@@ -11,10 +11,23 @@ use lib.Dec.{ltb, leb, eqb}
 use lib.Pow.{shr-shr, pow-pos}
 use Rattle.marks.specs.Bits.{bit, bit-zero, bit-suc, bit-past, bit-small}
 use Rattle.marks.specs.Marks.{isSet, is-set, set-is}
-use Rattle.terms.specs.Choice.{no-true, is-false}
+use Rattle.terms.specs.Choice.{no-true, is-false, cond-first}
+use Rattle.exchange.specs.declared.header.Format.{Format}
+use Rattle.exchange.specs.declared.header.Header.{Header}
+use Rattle.exchange.specs.declared.header.Lookup.{Lookup}
+use Rattle.exchange.specs.declared.header.Lookup.the-variants.{Found, Missing}
+use Rattle.exchange.specs.Formats.{formatOf}
+use Rattle.exchange.specs.Laws.Formats.{most-known}
 use Rattle.traces.specs.Realm as exchange
-use Rattle.traces.specs.Realm.{Header}
-use Rattle.realm.specs.Opening.{headerFits}
+use Rattle.traces.specs.Realm.{HeaderPasses}
+use Rattle.realm.specs.Opening.{header, headerFits, refusalBy, headerRefusal, newRealm, by-lookup}
+
+-- a header that opens a realm: its mark is known, n is within the mark's limit, and a realm can have its values
+pub record HeaderTaken (g : Header) : Type 0 where
+  pub format : Format
+  pub known : formatOf (g .mark) ≡ Found format
+  pub within : g .n ≤ format .most
+  pub passes : HeaderPasses (header (newRealm g))
 
 -- a header by its values
 abbrev pub values : (n flags ls la : ℕ) → exchange.Realm
@@ -62,34 +75,85 @@ not-set w e =
 set-not : (w : ℕ) → bit w 0 ≡ 0 → not (isSet w 0) ≡ true
 set-not w e = ap not (sym (is-false (isSet w 0) (λ q. let z = set-is w 0 q in omega arith)))
 
-module _ (n flags ls la : ℕ) where
-  pub fits-header : ls < 2 ^ 32 → la < 2 ^ 32 → headerFits n flags ls la ≡ true → Header (values n flags ls la)
+module _ (most n flags ls la : ℕ) where
+  -- the tests, in the order of the definition
+  record Tested : Type 0 where
+    least : 3 ≤ n
+    most-is : n ≤ most
+    server : bit flags 0 ≡ 0
+    above : flags / 2 ^ n ≡ 0
+    ticket : 0 < ls
+    authenticator : 0 < la
+
+  tested : headerFits most n flags ls la ≡ true → Tested
   unfolding headerFits
-  fits-header hs ha e =
-      let p = and-eq-true-iff (leb 3 n && leb n 16) (not (isSet flags 0) && eqb (flags / 2 ^ n) 0 && ltb 0 ls && ltb 0 la) .0 e in
-      let limits = and-eq-true-iff (leb 3 n) (leb n 16) .0 (p .0) in
+  tested e =
+      let p = and-eq-true-iff (leb 3 n && leb n most) (not (isSet flags 0) && eqb (flags / 2 ^ n) 0 && ltb 0 ls && ltb 0 la) .0 e in
+      let limits = and-eq-true-iff (leb 3 n) (leb n most) .0 (p .0) in
       let q = and-eq-true-iff (not (isSet flags 0) && eqb (flags / 2 ^ n) 0 && ltb 0 ls) (ltb 0 la) .0 (p .1) in
       let r = and-eq-true-iff (not (isSet flags 0) && eqb (flags / 2 ^ n) 0) (ltb 0 ls) .0 (q .0) in
       let s = and-eq-true-iff (not (isSet flags 0)) (eqb (flags / 2 ^ n) 0) .0 (r .0) in
       record {
         least = leb-true 3 n (limits .0);
-        most = leb-true n 16 (limits .1);
-        server-good = not-set flags (s .0);
-        none-above = zero-none flags n (eqb-true _ 0 (s .1));
-        ticketLife-some = ltb-true 0 ls (r .1);
+        most-is = leb-true n most (limits .1);
+        server = not-set flags (s .0);
+        above = eqb-true _ 0 (s .1);
+        ticket = ltb-true 0 ls (r .1);
+        authenticator = ltb-true 0 la (q .1);
+      }
+
+  pub fits-most : headerFits most n flags ls la ≡ true → n ≤ most
+  fits-most e = tested e .most-is
+
+  pub fits-passes : most ≤ 32 → ls < 2 ^ 32 → la < 2 ^ 32 → headerFits most n flags ls la ≡ true → HeaderPasses (values n flags ls la)
+  fits-passes limit hs ha e =
+      let t = tested e in
+      record {
+        least = t .least;
+        most = omega (arith, t .most-is, limit);
+        server-good = t .server;
+        none-above = zero-none flags n (t .above);
+        ticketLife-some = t .ticket;
         ticketLife-fits = hs;
-        authLife-some = ltb-true 0 la (q .1);
+        authLife-some = t .authenticator;
         authLife-fits = ha;
       }
 
-  pub header-fits : Header (values n flags ls la) → headerFits n flags ls la ≡ true
+  pub passes-fits : n ≤ most → HeaderPasses (values n flags ls la) → headerFits most n flags ls la ≡ true
   unfolding headerFits
-  header-fits h =
+  passes-fits few h =
       rw (
         le-leb 3 n (h .least),
-        le-leb n 16 (h .most),
+        le-leb n most few,
         set-not flags (h .server-good),
         eq-eqb (flags / 2 ^ n) 0 (none-zero flags n (h .none-above)),
         lt-ltb 0 ls (h .ticketLife-some),
         lt-ltb 0 la (h .authLife-some),
       )
+
+-- ---- the mark too
+
+module _ (g : Header) where
+  pub taken : g .ls < 2 ^ 32 → g .la < 2 ^ 32 → headerRefusal g ≡ 0 → HeaderTaken g
+  unfolding headerRefusal
+  taken hs ha e = by (formatOf (g .mark)) refl e
+    where
+      by : (l : Lookup) → formatOf (g .mark) ≡ l → refusalBy l g ≡ 0 → HeaderTaken g
+      by Missing q z = absurd (omega arith)
+      by (Found f) q z =
+          let t : headerFits (f .most) (g .n) (g .flags) (g .ls) (g .la) ≡ true = cond-first (headerFits (f .most) (g .n) (g .flags) (g .ls) (g .la)) {a = 0} {b = 2} {x = 0} (λ q. omega arith) z .0 in
+          record {
+            format = f;
+            known = q;
+            within = fits-most (f .most) (g .n) (g .flags) (g .ls) (g .la) t;
+            passes = fits-passes (f .most) (g .n) (g .flags) (g .ls) (g .la) (most-known (g .mark) f q) hs ha t;
+          }
+
+  pub taken-back : HeaderTaken g → headerRefusal g ≡ 0
+  taken-back t =
+      sym (by-lookup g (Found (t .format)) (t .known))
+      ∙ ap (λ (b : Bool). cond b 0 2) (passes-fits (t .format .most) (g .n) (g .flags) (g .ls) (g .la) (t .within) (t .passes))
+
+  -- its flags are those of its principals
+  pub flags-small : HeaderTaken g → g .flags < 2 ^ (g .n)
+  flags-small t = small-of (g .flags) (g .n) (none-zero (g .flags) (g .n) (t .passes .none-above))

@@ -1,27 +1,28 @@
 -- What the crate promises beside the contracts of its functions. Reading order of the definitions: Opening (a realm is opened, or
--- refusal 2), Input (refusals 4, 5 and 6 of a step), Tables and Check (what refusal 10 looks at).
+-- refusal 1 or 2), Input (refusals 4, 5 and 6 of a step), Tables and Check (what refusal 10 looks at).
 -- Assumes nothing.
-use Prim.Native.Nat.{ℕ, _^_, _<_}
+use Prim.Native.Nat.{_^_, _<_}
 use mathlib.Core.Path.{_≡_}
 use mathlib.Core.Bool.{true}
 use mathlib.Core.Logic.{_↔_}
 use lib.ListN.{length}
-use Rattle.traces.specs.Realm.{Header}
+use Rattle.exchange.specs.declared.header.Header.{Header}
 use Rattle.realm.specs.declared.header.Opening.the-variants.{Open}
 use Rattle.realm.specs.declared.header.Realm.{Realm}
 use Rattle.realm.specs.declared.input.Step.{Step}
 use Rattle.realm.specs.Check as checks
 use Rattle.realm.specs.Check.{TimesFit, WordsFit, together}
-use Rattle.realm.specs.Header.{values, fits-header, header-fits}
+use Rattle.realm.specs.Header.{HeaderTaken, taken, taken-back}
 use Rattle.realm.specs.Input.{inputRefusal, InputPassed, passed, passed-back}
 use Rattle.realm.specs.New as new
 use Rattle.realm.specs.New.{Lends}
-use Rattle.realm.specs.Opening.{headerFits, openingOf}
+use Rattle.realm.specs.Opening.{headerRefusal, openingOf}
 use Rattle.realm.specs.Tables.{Tables, Together}
 
--- A header of the file's widths passes exactly where the exchange's `Header` holds of it.
-pub header-exact : (n flags ls la : ℕ) → ls < 2 ^ 32 → la < 2 ^ 32 → (headerFits n flags ls la ≡ true) ↔ Header (values n flags ls la)
-header-exact n flags ls la hs ha = (fits-header n flags ls la hs ha, header-fits n flags ls la)
+-- A header of the file's widths opens a realm exactly where its mark is known, n is within the mark's limit, and the exchange's
+-- `HeaderPasses` holds of its values.
+pub header-exact : (g : Header) → g .ls < 2 ^ 32 → g .la < 2 ^ 32 → (headerRefusal g ≡ 0) ↔ HeaderTaken g
+header-exact g hs ha = (taken g hs ha, taken-back g)
 
 -- A step's fields pass exactly where the step is one of ten, unused fields are 0, and used ones are in range.
 pub input-exact : (h : Realm) (s : Step) → (inputRefusal h s ≡ 0) ↔ InputPassed h s
@@ -32,5 +33,5 @@ pub check-exact : (t : Tables) → TimesFit (t .realm) → WordsFit (t .wire) �
 check-exact t z w places = (checks.together-is t z w places, checks.is-together t)
 
 -- The tables that a caller lends for a realm that `open_realm` gave hold together, whatever stands in their places.
-pub new-together : (n flags ls la : ℕ) (h : Realm) (t : Tables) → ls < 2 ^ 32 → la < 2 ^ 32 → openingOf n flags ls la ≡ Open h → Lends h t → Together t
+pub new-together : (g : Header) (h : Realm) (t : Tables) → g .ls < 2 ^ 32 → g .la < 2 ^ 32 → openingOf g ≡ Open h → Lends h t → Together t
 new-together = new.new-together

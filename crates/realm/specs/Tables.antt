@@ -11,7 +11,7 @@ use Rattle.terms.specs.Valid.{Valid}
 use Rattle.runs.specs.Lent.{RowsHold}
 use Rattle.replay.specs.declared.entry.Entry.{Entry}
 use Rattle.replay.specs.Cache.{empty}
-use Rattle.traces.specs.Realm.{Header}
+use Rattle.traces.specs.Realm.{HeaderPasses}
 use Rattle.realm.specs.declared.header.Realm.{Realm}
 use Rattle.realm.specs.Opening.{header}
 
@@ -32,7 +32,7 @@ pub record EntryFits (n : ℕ) (e : Entry) : Type 0 where
 
 pub record Together (t : Tables) : Type 0 where
   -- not "a header value as in 2"
-  pub header-fits : Header (header (t .realm))
+  pub header-fits : HeaderPasses (header (t .realm))
   -- "Times are 32 bits"
   pub clock-fits : t .realm .clock < 2 ^ 32
   -- not "a term that breaks the term rules, 5 or 6 or repeats", and the full number of places

@@ -1,12 +1,17 @@
 // A realm: its header, its clock, and how many places of each lent table are in use.
+use exchange::header::Header;
+use exchange::header::Lookup;
+use exchange::header::REFUSE_FILE;
+use exchange::header::format_of;
 use marks::flagged;
 ghost use mathlib.Core.Path.{_≡_};
-ghost use Rattle.realm.specs.Opening.{headerFits, openingOf};
+ghost use Prim.Native.Nat.{_≤_};
+ghost use Rattle.realm.specs.Opening.{headerFits, limitRefusal, headerRefusal, openingOf};
 
 #[repr(C)]
 pub struct Realm {
     pub n: u8,
-    pub flags: u16,
+    pub flags: u32,
     // ticket life
     pub ls: u32,
     // authenticator life
@@ -19,26 +24,49 @@ pub struct Realm {
 
 pub const REFUSE_HEADER: u8 = 2;
 
-// Principals of a realm, the server among them.
+// Principals of a realm, the server among them: at least, and at most under any mark.
 const LEAST_PRINCIPALS: u8 = 3;
 
-const MOST_PRINCIPALS: u8 = 16;
+pub const MOST_PRINCIPALS: u8 = 32;
 
 // The number of the server.
 const SERVER: u16 = 0;
 
-// Whether a realm can have these values: no flag on the server or at n and above, no life of 0.
-pub fn header_fits(n: u8, flags: u16, ls: u32, la: u32) -> bool
-    ensures { λ r. ⌜ r ≡ headerFits n flags ls la ⌝ }
+// Whether a realm of at most so many principals can have these values: no flag on the server or at n and above, no life of 0.
+pub fn header_fits(most: u8, n: u8, flags: u32, ls: u32, la: u32) -> bool
+    requires { ⌜ most ≤ 32 ⌝ }
+    ensures { λ r. ⌜ r ≡ headerFits most n flags ls la ⌝ }
 {
     if n < LEAST_PRINCIPALS {
         return false;
     }
-    if MOST_PRINCIPALS < n {
+    if most < n {
         return false;
     }
-    let above = (flags as u32) >> n;
+    // n can be 32, the width of the flags
+    let above = (flags as u64) >> n;
     !flagged(flags, SERVER) & (above == 0) & (0 < ls) & (0 < la)
+}
+
+// 0 for values within the mark's limit, else the number of the refusal.
+fn limit_refusal(most: u8, header: Header) -> u8
+    requires { ⌜ most ≤ 32 ⌝ }
+    ensures { λ r. ⌜ r ≡ limitRefusal most header ⌝ }
+{
+    if header_fits(most, header.n, header.flags, header.ls, header.la) {
+        return 0;
+    }
+    REFUSE_HEADER
+}
+
+// 0 for a header that opens a realm, else the number of the refusal.
+pub fn header_refusal(header: Header) -> u8
+    ensures { λ r. ⌜ r ≡ headerRefusal header ⌝ }
+{
+    match format_of(header.mark) {
+        Lookup::Found(format) => limit_refusal(format.most, header),
+        Lookup::Missing => REFUSE_FILE,
+    }
 }
 
 pub enum Opening {
@@ -46,18 +74,19 @@ pub enum Opening {
     Refused(u8),
 }
 
-// A new realm: clock 0 and empty tables.
-pub fn open_realm(n: u8, flags: u16, ls: u32, la: u32) -> Opening
-    ensures { λ r. ⌜ r ≡ openingOf n flags ls la ⌝ }
+// A new realm: clock 0 and empty tables. It does not keep its mark.
+pub fn open_realm(header: Header) -> Opening
+    ensures { λ r. ⌜ r ≡ openingOf header ⌝ }
 {
-    if !header_fits(n, flags, ls, la) {
-        return Opening::Refused(REFUSE_HEADER);
+    let refusal = header_refusal(header);
+    if refusal != 0 {
+        return Opening::Refused(refusal);
     }
     Opening::Open(Realm {
-        n,
-        flags,
-        ls,
-        la,
+        n: header.n,
+        flags: header.flags,
+        ls: header.ls,
+        la: header.la,
         clock: 0,
         terms: 0,
         runs: 0,

@@ -1,6 +1,7 @@
 -- What the crate promises beside the contracts of its functions, which say that `read_header` gives `headerOf` and `read_record`
 -- gives `recordAt` of the lent bytes. Headers, Records and Calls have the definitions; clients use these laws and leave
--- `headerOf`, `recordAt` and `callsOf` shut. After a header the calls of a file are `callsOf (drop headerBytes bytes)`.
+-- `headerOf`, `recordAt` and `callsOf` shut. After a header the calls of a file are
+-- `callsOf (drop (headerWidth mark) bytes)`.
 -- Assumes nothing.
 use mathlib.Core.Path.{_≡_}
 use mathlib.Core.Logic.{_↔_}
@@ -8,8 +9,9 @@ use mathlib.Core.List.{List, []}
 use Prim.Native.Nat.{ℕ, _*_, _≤_}
 use lib.ListN.{length, drop}
 use Rattle.exchange.specs.declared.call.Call.{Call}
+use Rattle.exchange.specs.declared.header.Header.{Header}
 use Rattle.exchange.specs.Calls.{AllSized}
-use Rattle.records.specs.declared.header.Header.the-variants as header
+use Rattle.records.specs.declared.header.Heading.the-variants as header
 use Rattle.records.specs.declared.record.Record.the-variants as answer
 use Rattle.records.specs.Fields.{Bytes}
 use Rattle.records.specs.Headers.{headerOf, Headed, header-fields, header-refused}
@@ -20,12 +22,13 @@ use Rattle.records.specs.Calls.{ended, callsOf, onward, CallAt, Broken, 
 use Rattle.records.specs.Calls as calls
 
 module _ (bytes : List ℕ) where
-  -- A header is read exactly from a file of at most 65,536 bytes that begins with a whole HD record; any other gives 1.
+  -- A header is read exactly from a file of at most 65,536 bytes that begins with a known mark and is as long as its header; any other
+  -- gives 1.
   pub header-ways : headers.Finds bytes (headerOf bytes)
   header-ways = headers.header-finds bytes
 
-  pub header-read : (n flags ls la : ℕ) → headerOf bytes ≡ header.Read n flags ls la → Headed bytes n flags ls la
-  header-read n flags ls la e = header-fields bytes n flags ls la e
+  pub header-read : (g : Header) → headerOf bytes ≡ header.Read g → Headed bytes g
+  header-read g e = header-fields bytes g e
 
   pub header-gives-1 : (number : ℕ) → headerOf bytes ≡ header.Refused number → number ≡ 1
   header-gives-1 number e = header-refused bytes number e

@@ -9,7 +9,6 @@ use lib.Seq.{sets, sets-eq}
 use borrow.Rule.Slice.PartMut.{midOf, putMid}
 use Rattle.exchange.specs.declared.call.Call.{Call}
 use Rattle.exchange.specs.declared.call.Call.the-variants.{Term, Step}
-use Rattle.records.specs.Headers.{headerBytes}
 use Rattle.records.specs.Calls.{Ending, Calls, callsOf, CallAt}
 use Rattle.raw_records.specs.Calls.{callWords, wordsFor}
 use Rattle.fields.specs.Placed.{placed, Wrote, joined, wrote-as}
@@ -17,11 +16,11 @@ use Rattle.fields.specs.Parts.{part-wrote, nothing-wrote}
 use Rattle.rewriting.specs.Reading.{readOutcome, answerBy, fileWords, readOf}
 
 -- the words of the records before `at` stand at the front
-pub record ReadProgress (file before after : List ℕ) (at end : ℕ) : Type 0 where
+pub record ReadProgress (from : ℕ) (file before after : List ℕ) (at end : ℕ) : Type 0 where
   pub done : List ℕ
   pub wrote : Wrote before 0 done after end
-  pub whole : done ++ wordsFor (callsOf (drop at file) .calls) ≡ fileWords file
-  pub ending : callsOf (drop at file) .ending ≡ callsOf (drop headerBytes file) .ending
+  pub whole : done ++ wordsFor (callsOf (drop at file) .calls) ≡ fileWords from file
+  pub ending : callsOf (drop at file) .ending ≡ callsOf (drop from file) .ending
 
 -- ---- one record
 
@@ -35,15 +34,15 @@ seven (Step step run a b m t) = refl
 
 -- ---- one record after the other
 
-pub starts : (file before : List ℕ) → ReadProgress file before before 13 0
-starts file before = record { done = []; wrote = nothing-wrote before 0; whole = refl; ending = refl }
+pub starts : (from : ℕ) (file before : List ℕ) → ReadProgress from file before before from 0
+starts from file before = record { done = []; wrote = nothing-wrote before 0; whole = refl; ending = refl }
 
-module _ (file before after : List ℕ) (at end : ℕ) (p : ReadProgress file before after at end) where
+module _ (from : ℕ) (file before after : List ℕ) (at end : ℕ) (p : ReadProgress from file before after at end) where
   module _ {c : Call} {next : ℕ} (r : CallAt file at c next) where
-    onward : p .done ++ (callWords c ++ wordsFor (callsOf (drop next file) .calls)) ≡ fileWords file
+    onward : p .done ++ (callWords c ++ wordsFor (callsOf (drop next file) .calls)) ≡ fileWords from file
     onward = ap (λ (cs : Calls). p .done ++ wordsFor (cs .calls)) (sym (r .first)) ∙ p .whole
 
-    pub next-fits : length (fileWords file) ≤ length before → end + 7 ≤ length before
+    pub next-fits : length (fileWords from file) ≤ length before → end + 7 ≤ length before
     next-fits room =
         omega (
           arith,
@@ -55,7 +54,7 @@ module _ (file before after : List ℕ) (at end : ℕ) (p : ReadProgress file be
         )
 
     pub goes-on : {part : List ℕ} {n : ℕ} → Wrote (midOf end (length after - end) after) 0 (callWords c) part n
-        → ReadProgress file before (putMid end (length after - end) after part) next (end + n)
+        → ReadProgress from file before (putMid end (length after - end) after part) next (end + n)
     goes-on {part} {n} w = record {
       done = p .done ++ callWords c;
       wrote = joined (omega arith) (p .wrote) (part-wrote after end (callWords c) w);
@@ -63,11 +62,11 @@ module _ (file before after : List ℕ) (at end : ℕ) (p : ReadProgress file be
       ending = ap (λ (cs : Calls). cs .ending) (sym (r .first)) ∙ p .ending;
     }
 
-  pub finishes : {e : Ending} → callsOf (drop at file) ≡ record { calls = []; ending = e } → readOutcome (answerBy e end) after ≡ readOf file before
+  pub finishes : {e : Ending} → callsOf (drop at file) ≡ record { calls = []; ending = e } → readOutcome (answerBy e end) after ≡ readOf from file before
   unfolding readOf
   finishes {e} last =
-      let is : p .done ≡ fileWords file = sym (append-nil (p .done)) ∙ ap (λ (cs : Calls). p .done ++ wordsFor (cs .calls)) (sym last) ∙ p .whole in
-      let w : Wrote before 0 (fileWords file) after end = wrote-as is (p .wrote) in
+      let is : p .done ≡ fileWords from file = sym (append-nil (p .done)) ∙ ap (λ (cs : Calls). p .done ++ wordsFor (cs .calls)) (sym last) ∙ p .whole in
+      let w : Wrote before 0 (fileWords from file) after end = wrote-as is (p .wrote) in
       ap (λ (k : Ending). readOutcome (answerBy k end) after) (ap (λ (cs : Calls). cs .ending) (sym last) ∙ p .ending)
-      ∙ ap (λ (k : ℕ). readOutcome (answerBy (callsOf (drop headerBytes file) .ending) k) after) (omega (arith, w .offset))
-      ∙ ap (readOutcome (answerBy (callsOf (drop headerBytes file) .ending) (length (fileWords file)))) (w .contents)
+      ∙ ap (λ (k : ℕ). readOutcome (answerBy (callsOf (drop from file) .ending) k) after) (omega (arith, w .offset))
+      ∙ ap (readOutcome (answerBy (callsOf (drop from file) .ending) (length (fileWords from file)))) (w .contents)

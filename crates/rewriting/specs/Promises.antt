@@ -8,11 +8,12 @@ use Prim.Native.Nat.{ℕ}
 use native.Mathlib.Omega.{arith}
 use lib.ListN.{length, drop, replicate, length-replicate}
 use Rattle.exchange.specs.declared.call.Call.{Call}
-use Rattle.realm.specs.Opening.{headerFits}
-use Rattle.records.specs.declared.header.Header.{Header}
-use Rattle.records.specs.declared.header.Header.the-variants as header
+use Rattle.exchange.specs.declared.header.Header.{Header}
+use Rattle.realm.specs.Opening.{headerRefusal}
+use Rattle.records.specs.declared.header.Heading.{Heading}
+use Rattle.records.specs.declared.header.Heading.the-variants as header
 use Rattle.records.specs.Fields.{Bytes}
-use Rattle.records.specs.Headers.{headerBytes, headerOf}
+use Rattle.records.specs.Headers.{headerWidth, headerOf}
 use Rattle.records.specs.Calls.{Ending, ended, broken, Calls, callsOf}
 use Rattle.records.specs.Promises.{header-read}
 use Rattle.raw_records.specs.Raw.{recordsOf}
@@ -34,45 +35,39 @@ use Rattle.rewriting.specs.Rewriting.{offset, places, compared, writtenB
 
 -- a file that reads to its end, and whose header and records pass by their own fields
 pub record Writable (file : List ℕ) : Type 0 where
-  pub n : ℕ
-  pub flags : ℕ
-  pub ls : ℕ
-  pub la : ℕ
+  pub values : Header
   pub calls : List Call
-  pub reads : ReadsAs file n flags ls la calls
-  pub header-passes : headerFits n flags ls la ≡ true
-  pub records-pass : recordsRefusal n (map rawFor calls) ≡ 0
+  pub reads : ReadsAs file values calls
+  pub header-passes : headerRefusal values ≡ 0
+  pub records-pass : recordsRefusal (values .n) (map rawFor calls) ≡ 0
 
 module _ (file : List ℕ) where
   -- ---- what was written was writable
 
-  passed : (n flags ls la : ℕ) (words : List ℕ) (v : Verdict) (r : Filing) (after : List ℕ)
-      → writeOutcome r after ≡ writeOf n flags ls la words (replicate places 0) offset → compared r after file ≡ Compared v
-      → WalkPasses n flags ls la (recordsOf words) (length (replicate {A = ℕ} places 0)) offset
-  passed n flags ls la words v (filing.Written count) after w e = written-passes n flags ls la words (replicate places 0) offset count after (sym w)
-  passed n flags ls la words v (filing.Refused number) after w e = let z : _≡_ {A = ℕ} 0 1 = cc in absurd (omega arith)
+  passed : (g : Header) (words : List ℕ) (v : Verdict) (r : Filing) (after : List ℕ)
+      → writeOutcome r after ≡ writeOf g words (replicate places 0) offset → compared r after file ≡ Compared v
+      → WalkPasses g (recordsOf words) (length (replicate {A = ℕ} places 0)) offset
+  passed g words v (filing.Written count) after w e = written-passes g words (replicate places 0) offset count after (sym w)
+  passed g words v (filing.Refused number) after w e = let z : _≡_ {A = ℕ} 0 1 = cc in absurd (omega arith)
 
-  by-calls : (n flags ls la : ℕ) (v : Verdict) → headerOf file ≡ header.Read n flags ls la → (e : Ending) → callsOf (drop headerBytes file) .ending ≡ e
-      → byEnding e n flags ls la file ≡ Compared v → Writable file
+  by-calls : (g : Header) (v : Verdict) → headerOf file ≡ header.Read g → (e : Ending) → callsOf (drop (headerWidth (g .mark)) file) .ending ≡ e
+      → byEnding e g file ≡ Compared v → Writable file
   unfolding writtenBack
-  by-calls n flags ls la v h ended e b =
-      let calls = callsOf (drop headerBytes file) .calls in
-      let o : WriteOutcome = writeOf n flags ls la (fileWords file) (replicate places 0) offset in
-      let a = passed n flags ls la (fileWords file) v (o .answer) (o .buffer) refl b in
+  by-calls g v h ended e b =
+      let calls = callsOf (drop (headerWidth (g .mark)) file) .calls in
+      let o : WriteOutcome = writeOf g (fileWords (headerWidth (g .mark)) file) (replicate places 0) offset in
+      let a = passed g (fileWords (headerWidth (g .mark)) file) v (o .answer) (o .buffer) refl b in
       record {
-        n = n;
-        flags = flags;
-        ls = ls;
-        la = la;
+        values = g;
         calls = calls;
         reads = record { header = h; records = ap (λ (k : Ending). record { calls = calls; ending = k }) e };
         header-passes = a .header;
-        records-pass = sym (ap (recordsRefusal n) (records-for calls)) ∙ a .records;
+        records-pass = sym (ap (recordsRefusal (g .n)) (records-for calls)) ∙ a .records;
       }
-  by-calls n flags ls la v h broken e b = let z : _≡_ {A = ℕ} 0 1 = cc in absurd (omega arith)
+  by-calls g v h broken e b = let z : _≡_ {A = ℕ} 0 1 = cc in absurd (omega arith)
 
-  by-opening : (v : Verdict) (h : Header) → headerOf file ≡ h → byHeader h file ≡ Compared v → Writable file
-  by-opening v (header.Read n flags ls la) h b = by-calls n flags ls la v h (callsOf (drop headerBytes file) .ending) refl b
+  by-opening : (v : Verdict) (h : Heading) → headerOf file ≡ h → byHeader h file ≡ Compared v → Writable file
+  by-opening v (header.Read g) h b = by-calls g v h (callsOf (drop (headerWidth (g .mark)) file) .ending) refl b
   by-opening v (header.Refused number) h b = let z : _≡_ {A = ℕ} 0 1 = cc in absurd (omega arith)
 
   -- ---- what is writable is written
@@ -80,12 +75,12 @@ module _ (file : List ℕ) where
   -- A writable file is written, and what was written is the file,
   pub written-back : Bytes file → Writable file → rewrittenOf file ≡ Compared Same
   written-back b w =
-      let most = header-read file (w .n) (w .flags) (w .ls) (w .la) (w .reads .header) .most in
+      let most = header-read file (w .values) (w .reads .header) .most in
       let long = length-replicate {A = ℕ} places 0 in
-      sym (by-ending file (w .n) (w .flags) (w .ls) (w .la) (sym (w .reads .header)) (ap (λ (cs : Calls). cs .ending) (w .reads .records)))
-      ∙ ap (λ (cs : Calls). writtenBack (w .n) (w .flags) (w .ls) (w .la) (wordsFor (cs .calls)) file) (w .reads .records)
-      ∙ sym (compared-is (w .n) (w .flags) (w .ls) (w .la) (wordsFor (w .calls)) file
-      (sym (write-back file b (w .n) (w .flags) (w .ls) (w .la) (w .calls) (w .reads) (w .header-passes) (w .records-pass) (replicate places 0) offset (omega (arith, most, long)))))
+      sym (by-ending file (w .values) (sym (w .reads .header)) (ap (λ (cs : Calls). cs .ending) (w .reads .records)))
+      ∙ ap (λ (cs : Calls). writtenBack (w .values) (wordsFor (cs .calls)) file) (w .reads .records)
+      ∙ sym (compared-is (w .values) (wordsFor (w .calls)) file
+      (sym (write-back file b (w .values) (w .calls) (w .reads) (w .header-passes) (w .records-pass) (replicate places 0) offset (omega (arith, most, long)))))
       ∙ ap (λ (xs : List ℕ). Compared (difference 1 xs file)) (placed-there (replicate places 0) offset file (omega (arith, long)))
       ∙ ap Compared (itself 1 file)
 

@@ -8,7 +8,7 @@ use lib.ListN.{length, take, drop, length-drop}
 use lib.Seq.{take-at}
 use Rattle.exchange.specs.declared.call.Call.{Call}
 use Rattle.exchange.specs.declared.call.Call.the-variants.{Term, Step}
-use Rattle.records.specs.Headers.{headerBytes, maxFile}
+use Rattle.records.specs.Headers.{maxFile}
 use Rattle.records.specs.Calls.{Ending, ended, broken, callsOf}
 use Rattle.records.specs.Promises.{calls-few}
 use Rattle.raw_records.specs.Calls.{wordsFor}
@@ -31,13 +31,13 @@ abbrev pub answerBy : Ending → (count : ℕ) → WordsRead
 answerBy ended count = Count count
 answerBy broken count = Broken
 
--- the words of the records of a file, up to where reading ends
-abbrev pub fileWords : List ℕ → List ℕ
-fileWords file = wordsFor (callsOf (drop headerBytes file) .calls)
+-- the words of the records of a file, from a place on and up to where reading ends
+abbrev pub fileWords : (from : ℕ) → List ℕ → List ℕ
+fileWords from file = wordsFor (callsOf (drop from file) .calls)
 
 -- they stand at the front, and what stands behind them is kept
-unfoldable pub readOf : (file words : List ℕ) → ReadOutcome
-readOf file words = readOutcome (answerBy (callsOf (drop headerBytes file) .ending) (length (fileWords file))) (placed words 0 (fileWords file))
+unfoldable pub readOf : (from : ℕ) (file words : List ℕ) → ReadOutcome
+readOf from file words = readOutcome (answerBy (callsOf (drop from file) .ending) (length (fileWords from file))) (placed words 0 (fileWords from file))
 
 -- ---- laws: what an answer says
 
@@ -47,15 +47,15 @@ words-long (Term kind l r ∷ calls) = omega (arith, words-long calls)
 words-long (Step step run a b m t ∷ calls) = omega (arith, words-long calls)
 
 -- a file of 65,536 bytes has at most 9,360 records after its header
-pub words-few : (file : List ℕ) → length file ≤ maxFile → length (fileWords file) ≤ 65520
-words-few file most =
-    omega (arith, words-long (callsOf (drop headerBytes file) .calls), calls-few (drop headerBytes file), length-drop headerBytes file)
+pub words-few : (from : ℕ) (file : List ℕ) → 13 ≤ from → length file ≤ maxFile → length (fileWords from file) ≤ 65520
+words-few from file least most =
+    omega (arith, words-long (callsOf (drop from file) .calls), calls-few (drop from file), length-drop from file)
 
 -- the file reads to its end, and its words stand at the front
-pub record ReadWhole (file after : List ℕ) (count : ℕ) : Type 0 where
-  pub ending : callsOf (drop headerBytes file) .ending ≡ ended
-  pub count-is : count ≡ length (fileWords file)
-  pub front-is : take count after ≡ fileWords file
+pub record ReadWhole (from : ℕ) (file after : List ℕ) (count : ℕ) : Type 0 where
+  pub ending : callsOf (drop from file) .ending ≡ ended
+  pub count-is : count ≡ length (fileWords from file)
+  pub front-is : take count after ≡ fileWords from file
 
 by-count : (e : Ending) (count long : ℕ) → Count count ≡ answerBy e long → (e ≡ ended) × (count ≡ long)
 by-count ended count long h = (refl, cc)
@@ -65,17 +65,17 @@ by-broken : (e : Ending) (long : ℕ) → Broken ≡ answerBy e long → e ≡ b
 by-broken ended long h = let z : _≡_ {A = ℕ} 0 1 = cc in absurd (omega arith)
 by-broken broken long h = refl
 
-module _ (file words after : List ℕ) where
-  pub counted : (count : ℕ) → readOutcome (Count count) after ≡ readOf file words → ReadWhole file after count
+module _ (from : ℕ) (file words after : List ℕ) where
+  pub counted : (count : ℕ) → readOutcome (Count count) after ≡ readOf from file words → ReadWhole from file after count
   unfolding readOf placed
   counted count e =
-      let b = by-count (callsOf (drop headerBytes file) .ending) count (length (fileWords file)) (ap (λ (o : ReadOutcome). o .answer) e) in
+      let b = by-count (callsOf (drop from file) .ending) count (length (fileWords from file)) (ap (λ (o : ReadOutcome). o .answer) e) in
       record {
         ending = b .0;
         count-is = b .1;
-        front-is = rw (b .1, ap (λ (o : ReadOutcome). o .words) e) (take-at (fileWords file) (drop (0 + length (fileWords file)) words) (length (fileWords file)) refl);
+        front-is = rw (b .1, ap (λ (o : ReadOutcome). o .words) e) (take-at (fileWords from file) (drop (0 + length (fileWords from file)) words) (length (fileWords from file)) refl);
       }
 
-  pub broken-off : readOutcome Broken after ≡ readOf file words → callsOf (drop headerBytes file) .ending ≡ broken
+  pub broken-off : readOutcome Broken after ≡ readOf from file words → callsOf (drop from file) .ending ≡ broken
   unfolding readOf
-  broken-off e = by-broken (callsOf (drop headerBytes file) .ending) (length (fileWords file)) (ap (λ (o : ReadOutcome). o .answer) e)
+  broken-off e = by-broken (callsOf (drop from file) .ending) (length (fileWords from file)) (ap (λ (o : ReadOutcome). o .answer) e)

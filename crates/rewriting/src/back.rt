@@ -3,8 +3,10 @@ use super::reading::WordsRead;
 use super::reading::read_words;
 use comparison::Verdict;
 use comparison::first_difference;
-use records::header::Header;
+use exchange::header::Header;
+use records::header::Heading;
 use records::header::MAX_FILE;
+use records::header::header_width;
 use records::header::read_header;
 use writer::walk::Filing;
 use writer::walk::write_walk;
@@ -30,11 +32,11 @@ pub enum Rewritten {
 }
 
 // A header and records that were read from a file, written into a buffer and compared with the file.
-fn write_back(n: u8, flags: u16, ls: u32, la: u32, words: &[u32], file: &[u8]) -> Rewritten
-    ensures { λ r. ⌜ r ≡ writtenBack n flags ls la (now (words .entry)) (now (file .entry)) ⌝ }
+fn write_back(header: Header, words: &[u32], file: &[u8]) -> Rewritten
+    ensures { λ r. ⌜ r ≡ writtenBack header (now (words .entry)) (now (file .entry)) ⌝ }
 {
     let mut out = [0u8; PLACES];
-    match write_walk(n, flags, ls, la, words, &mut out, OFFSET) {
+    match write_walk(header, words, &mut out, OFFSET) {
         Filing::Refused(refusal) => Rewritten::Refused(refusal),
         Filing::Written(count) => {
             let end = OFFSET + count;
@@ -47,18 +49,13 @@ fn write_back(n: u8, flags: u16, ls: u32, la: u32, words: &[u32], file: &[u8]) -
 pub fn rewrite(file: &[u8]) -> Rewritten
     ensures { λ r. ⌜ r ≡ rewrittenOf (now (file .entry)) ⌝ }
 {
-    let Header::Read {
-        n,
-        flags,
-        ticket_life,
-        auth_life,
-    } = read_header(file)
-    else {
+    let Heading::Read(header) = read_header(file) else {
         return Rewritten::Unread;
     };
+    let from = header_width(header.mark);
     let mut words = [0u32; MAX_WORDS];
-    let WordsRead::Count(end) = read_words(file, &mut words) else {
+    let WordsRead::Count(end) = read_words(file, from, &mut words) else {
         return Rewritten::Unread;
     };
-    write_back(n, flags, ticket_life, auth_life, &words[..end], file)
+    write_back(header, &words[..end], file)
 }

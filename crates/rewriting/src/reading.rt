@@ -1,6 +1,5 @@
 // The records of a file as words, as the writer takes them: seven a record, at the front of a lent slice.
 use exchange::call::Call;
-use records::header::HEADER_BYTES;
 use records::record::Record;
 use records::record::STEP_MARK;
 use records::record::TERM_MARK;
@@ -73,12 +72,12 @@ fn put_call(words: &mut [u32], call: Call) -> usize
     }
 }
 
-// The words of all records, up to where reading ends.
-pub fn read_words(file: &[u8], words: &mut [u32]) -> WordsRead
-    requires { ⌜ length (fileWords (now file)) ≤ length (now words) ⌝ }
-    ensures { λ r. ⌜ readOutcome r (now (words .exit)) ≡ readOf (now (file .entry)) (now (words .entry)) ⌝ }
+// The words of all records from a place on, up to where reading ends.
+pub fn read_words(file: &[u8], from: usize, words: &mut [u32]) -> WordsRead
+    requires { ⌜ length (fileWords from (now file)) ≤ length (now words) ⌝ }
+    ensures { λ r. ⌜ readOutcome r (now (words .exit)) ≡ readOf from (now (file .entry)) (now (words .entry)) ⌝ }
 {
-    let mut at = HEADER_BYTES;
+    let mut at = from;
     let mut end: usize = 0;
     loop {
         match read_record(file, at) {

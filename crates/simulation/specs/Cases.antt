@@ -39,7 +39,7 @@ use Rattle.rows.specs.Runs.{runAt, setRun}
 use Rattle.replay.specs.Cache.{empty, present, stays, kept, written}
 use Rattle.realm.specs.Check.{wireHolds, entriesHold, together}
 use Rattle.realm.specs.Input.{usesTable, inRange, inputRefusal}
-use Rattle.realm.specs.Opening.{headerFits, newRealm}
+use Rattle.realm.specs.Opening.{headerFits}
 use Rattle.realm.specs.Tables.{Tables, tables}
 use Rattle.conditions.specs.Conditions.{admission}
 use Rattle.decisions.specs.Decision.{issues, authenticates, takes, finishes, opensRun, ticks, queries, stepOf, decided, decision}
@@ -90,8 +90,7 @@ placed xs = map wordOf xs ++ replicate (512 - length xs) 0
 -- a realm of 3 principals with no runs and no entries: these terms, and a wire of one word
 abbrev handed : (flags ls la : ℕ) → List Word → (wire : ℕ) → Tables
 handed flags ls la xs wire =
-    let h = newRealm 3 flags ls la in
-    tables (record { n = h .n; flags = h .flags; ls = h .ls; la = h .la; clock = 0; terms = length xs; runs = 0; entries = 0 }) (placed xs)
+    tables (record { n = 3; flags = flags; ls = ls; la = la; clock = 0; terms = length xs; runs = 0; entries = 0 }) (placed xs)
     (replicate 448 0) (wire ∷ replicate 7 0) (replicate 16 empty)
 
 -- "n 3, flags 0, Ls 100, La 10"

@@ -33,6 +33,7 @@ use Rattle.realm.specs.Fields.{callOf}
 use Rattle.realm.specs.declared.header.Opening.the-variants.{Open}
 use Rattle.realm.specs.declared.header.Realm as realms
 use Rattle.realm.specs.New.{Lends, opened-is, new-together}
+use Rattle.exchange.specs.declared.header.Header.{Header}
 use Rattle.realm.specs.Opening.{header, newRealm, openingOf}
 use Rattle.realm.specs.Tables.{Tables, Together}
 use Rattle.decisions.specs.declared.Verdict.{Verdict}
@@ -140,12 +141,12 @@ call-takes t ρ (calls.Step step run x y m time) size f a =
 -- ---- a new realm
 
 -- what a caller lends for a realm that `open_realm` gave is a new realm
-pub opened-new : (n flags ls la : ℕ) (h : realms.Realm) (t : Tables) → ls < 2 ^ 32 → la < 2 ^ 32 → openingOf n flags ls la ≡ Open h → Lends h t → New (header h) t
-opened-new n flags ls la h t hs ha o l =
-    let is : newRealm n flags ls la ≡ t .realm = opened-is n flags ls la h o .1 ∙ sym (l .realm-is) in
+pub opened-new : (g : Header) (h : realms.Realm) (t : Tables) → g .ls < 2 ^ 32 → g .la < 2 ^ 32 → openingOf g ≡ Open h → Lends h t → New (header h) t
+opened-new g h t hs ha o l =
+    let is : newRealm g ≡ t .realm = opened-is g h o .1 ∙ sym (l .realm-is) in
     record {
       header-is = ap header (l .realm-is);
-      together = new-together n flags ls la h t hs ha o l;
+      together = new-together g h t hs ha o l;
       clock = ap (λ (x : realms.Realm). x .clock) (sym is);
       terms = ap (λ (x : realms.Realm). x .terms) (sym is);
       runs = ap (λ (x : realms.Realm). x .runs) (sym is);

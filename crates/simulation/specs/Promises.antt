@@ -18,7 +18,7 @@ use Rattle.exchange.specs.declared.call.Call.the-variants.{Step}
 use Rattle.exchange.specs.Calls.{accepts, Sized, AllSized}
 use Rattle.traces.specs.Engines.{Agrees, after, history}
 use Rattle.traces.specs.Promises.{tables-agree}
-use Rattle.traces.specs.Realm.{Realm, Header}
+use Rattle.traces.specs.Realm.{Realm, HeaderPasses}
 use Rattle.traces.specs.RuleSets.{Reading, reading}
 use Rattle.kerberos.specs.Agreement.{Demand3}
 use Rattle.kerberos.specs.Log.{Event, Act}
@@ -42,7 +42,7 @@ use Rattle.simulation.specs.Values.{valuesOf}
 -- Demand 3 holds of every list of calls, each with any fields, from a new realm under any header that refusal 2 lets pass.
 pub demand3 : (R : Realm) (t : Tables) (new : New R t) (cs : List Call) → AllSized cs → Demand3 parallel R (history HD R (engineOf R t new) cs)
 demand3 R t new cs size =
-    engine-demand3 parallel R (subst Header (new .header-is) (new .together .header-fits)) (engineOf R t new) cs size
+    engine-demand3 parallel R (subst HeaderPasses (new .header-is) (new .together .header-fits)) (engineOf R t new) cs size
 
 -- "After each call the runs, the clock and the wire in the tables agree with these readings", and so do terms and cache.
 pub tables-follow : (R : Realm) (t : Tables) (new : New R t) (cs : List Call) → AllSized cs

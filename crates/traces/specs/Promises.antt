@@ -17,7 +17,7 @@ use Rattle.traces.specs.Laws.Histories.{fits, lawful, trace-of}
 use Rattle.traces.specs.Lists.{_∈_, _⊑_}
 use Rattle.traces.specs.Logs.{Act, Log, Did, Trace, trace-at}
 use Rattle.traces.specs.Origins.{Origins, Made, Leaked, Issued, Sound}
-use Rattle.traces.specs.Realm.{Realm, Good, Header}
+use Rattle.traces.specs.Realm.{Realm, Good, HeaderPasses}
 use Rattle.traces.specs.Rows as rows
 use Rattle.traces.specs.Rows.{Telling}
 use Rattle.traces.specs.RuleSets.{History, RuleSet, reading, log, Lawful, Adds}
@@ -33,7 +33,7 @@ module _ (S : RuleSet) (R : Realm) where
 
   module _ (E : Engine S R) where
     -- an engine's histories are lawful,
-    pub engine-lawful : Header R → (cs : List Call) → AllSized cs → Lawful S R (history S R E cs)
+    pub engine-lawful : HeaderPasses R → (cs : List Call) → AllSized cs → Lawful S R (history S R E cs)
     engine-lawful header cs z = lawful S R E header cs z
 
     -- and after each call its tables agree with the reading.

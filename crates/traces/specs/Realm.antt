@@ -18,10 +18,10 @@ abbrev pub Good : Realm → ℕ → Type 0
 Good R p = ¬ (Bad (R .n) (R .flags) p)
 
 -- "any header that refusal 2 lets pass"
-pub record Header (R : Realm) : Type 0 where
-  -- "n outside 3 to 16,"
+pub record HeaderPasses (R : Realm) : Type 0 where
+  -- "n is 3 to 32" under the widest mark: what any realm can have
   pub least : 3 ≤ R .n
-  pub most : R .n ≤ 16
+  pub most : R .n ≤ 32
   -- "a flag on party 0 or at n and above,"
   pub server-good : bit (R .flags) 0 ≡ 0
   pub none-above : (p : ℕ) → R .n ≤ p → bit (R .flags) p ≡ 0

@@ -8,9 +8,9 @@ use lib.Dec.{ltb}
 use lib.ListN.{length, drop, replicate}
 use Rattle.marks.specs.Marks.{size}
 use Rattle.exchange.specs.declared.call.Call.{Call}
-use Rattle.records.specs.declared.header.Header.{Header}
-use Rattle.records.specs.declared.header.Header.the-variants as header
-use Rattle.records.specs.Headers.{headerBytes, headerOf}
+use Rattle.records.specs.declared.header.Heading.{Heading}
+use Rattle.records.specs.declared.header.Heading.the-variants as header
+use Rattle.records.specs.Headers.{headerWidth, headerOf}
 use Rattle.records.specs.Calls.{Ending, ended, broken, Calls, callsOf}
 use Rattle.lines.specs.Lines.{headerLine, callLine, fileLine, endLine}
 use Rattle.fields.specs.Placed.{placed}
@@ -51,18 +51,18 @@ abbrev pub linesOf : (number : ℕ) → Tables → Calls → List ℕ
 linesOf number t cs = callLines number t (cs .calls) (cs .ending)
 
 -- the file of a realm that was opened; its header is record 0
-unfoldable pub walkLines : Realm → List ℕ → List ℕ
-walkLines h bytes = headerLine ++ linesOf 1 (newTables h) (callsOf (drop headerBytes bytes))
+unfoldable pub walkLines : Realm → (mark : ℕ) → List ℕ → List ℕ
+walkLines h mark bytes = headerLine mark ++ linesOf 1 (newTables h) (callsOf (drop (headerWidth mark) bytes))
 
--- "2": "n outside 3 to 16, a flag on party 0 or at n and above, or a life of 0"
-abbrev pub openingLines : List ℕ → Opening → List ℕ
-openingLines bytes (opening.Refused refusal) = fileLine 0 refusal
-openingLines bytes (opening.Open h) = walkLines h bytes
+-- "2": "n outside 3 to 16, a flag on party 0 or at n and above, or a life of 0", with the mark's limit in place of 16
+abbrev pub openingLines : (mark : ℕ) → List ℕ → Opening → List ℕ
+openingLines mark bytes (opening.Refused refusal) = fileLine 0 refusal
+openingLines mark bytes (opening.Open h) = walkLines h mark bytes
 
--- "1": "file over 65,536 bytes, or without a whole HD record first"
-abbrev pub headerLines : List ℕ → Header → List ℕ
+-- "1": "file over 65,536 bytes, or without a whole HD record first", or HW
+abbrev pub headerLines : List ℕ → Heading → List ℕ
 headerLines bytes (header.Refused refusal) = fileLine 0 refusal
-headerLines bytes (header.Read n flags ls la) = openingLines bytes (openingOf n flags ls la)
+headerLines bytes (header.Read g) = openingLines (g .mark) bytes (openingOf g)
 
 unfoldable pub listingOf : List ℕ → List ℕ
 listingOf bytes = headerLines bytes (headerOf bytes)

@@ -4,7 +4,8 @@ use Prim.Native.Nat.{ℕ}
 use mathlib.Core.Path.{_≡_, refl}
 use mathlib.Core.List.{List}
 use lib.ListN.{length-replicate}
-use Rattle.records.specs.declared.header.Header.the-variants as header
+use Rattle.exchange.specs.declared.header.Header.{Header}
+use Rattle.records.specs.declared.header.Heading.the-variants as header
 use Rattle.records.specs.Fields.{Bytes}
 use Rattle.records.specs.Headers.{headerOf, header-fields}
 use Rattle.replay.specs.Cache.{empty}
@@ -29,20 +30,21 @@ lends h =
       cache = length-replicate 16 empty;
     }
 
-pub walkable : (bytes : List ℕ) (n flags ls la : ℕ) (h : Realm) → Bytes bytes → headerOf bytes ≡ header.Read n flags ls la
-    → openingOf n flags ls la ≡ opening.Open h → Walkable h bytes
-walkable bytes n flags ls la h small e o =
-    let f = header-fields bytes n flags ls la e in
+pub walkable : (bytes : List ℕ) (g : Header) (h : Realm) → Bytes bytes → headerOf bytes ≡ header.Read g
+    → openingOf g ≡ opening.Open h → Walkable h (g .mark) bytes
+walkable bytes g h small e o =
+    let f = header-fields bytes g e in
     let s = f .sized small in
     record {
-      together = new-together n flags ls la h (newTables h) (s .2) (s .3) o (lends h);
+      together = new-together g h (newTables h) (s .2) (s .3) o (lends h);
       least = f .least;
+      whole = f .whole;
       most = f .most;
     }
 
 -- its tables are those of a new realm, as the engine asks for one
-pub opened-new : (bytes : List ℕ) (n flags ls la : ℕ) (h : Realm) → Bytes bytes → headerOf bytes ≡ header.Read n flags ls la
-    → openingOf n flags ls la ≡ opening.Open h → New (headerOfRealm h) (newTables h)
-opened-new bytes n flags ls la h small e o =
-    let s = header-fields bytes n flags ls la e .sized small in
-    engine.opened-new n flags ls la h (newTables h) (s .2) (s .3) o (lends h)
+pub opened-new : (bytes : List ℕ) (g : Header) (h : Realm) → Bytes bytes → headerOf bytes ≡ header.Read g
+    → openingOf g ≡ opening.Open h → New (headerOfRealm h) (newTables h)
+opened-new bytes g h small e o =
+    let s = header-fields bytes g e .sized small in
+    engine.opened-new g h (newTables h) (s .2) (s .3) o (lends h)

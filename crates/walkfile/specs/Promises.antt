@@ -13,9 +13,10 @@ use Rattle.kerberos.specs.Reading.{HD}
 use Rattle.exchange.specs.Calls.{AllSized}
 use Rattle.traces.specs.Engines.{Agrees, after, history}
 use Rattle.traces.specs.RuleSets.{reading}
-use Rattle.records.specs.declared.header.Header.the-variants as headers
+use Rattle.exchange.specs.declared.header.Header.{Header}
+use Rattle.records.specs.declared.header.Heading.the-variants as headers
 use Rattle.records.specs.Fields.{Bytes, drop-bytes}
-use Rattle.records.specs.Headers.{headerBytes, headerOf}
+use Rattle.records.specs.Headers.{headerWidth, headerOf}
 use Rattle.records.specs.Calls.{callsOf}
 use Rattle.records.specs.Promises.{calls-sized}
 use Rattle.lines.specs.Lines.{listing}
@@ -44,37 +45,38 @@ pub use Rattle.walkfile.specs.CaseF.{printed}
 -- the file's header opened this realm
 pub record HeaderOpens (bytes : List ℕ) (h : Realm) : Type 0 where
   pub small : Bytes bytes
-  pub n : ℕ
-  pub flags : ℕ
-  pub ls : ℕ
-  pub la : ℕ
-  pub read : headerOf bytes ≡ headers.Read n flags ls la
-  pub opened : openingOf n flags ls la ≡ openings.Open h
-
--- the calls of a file, the newest first
-abbrev pub callsIn : List ℕ → List Call
-callsIn bytes = newestFirst (callsOf (drop headerBytes bytes) .calls)
+  pub values : Header
+  pub read : headerOf bytes ≡ headers.Read values
+  pub opened : openingOf values ≡ openings.Open h
 
 module _ (bytes : List ℕ) (h : Realm) (o : HeaderOpens bytes h) where
+  -- what stands behind the header
+  abbrev rest : List ℕ
+  rest = drop (headerWidth (o .values .mark)) bytes
+
+  -- the calls of the file, the newest first
+  abbrev calls : List Call
+  calls = newestFirst (callsOf rest .calls)
+
   -- its tables are those of a new realm
   pub new : New (header h) (newTables h)
-  new = opened-new bytes (o .n) (o .flags) (o .ls) (o .la) h (o .small) (o .read) (o .opened)
+  new = opened-new bytes (o .values) h (o .small) (o .read) (o .opened)
 
-  sized : AllSized (callsIn bytes)
-  sized = newest-sized (callsOf (drop headerBytes bytes) .calls) (calls-sized (drop headerBytes bytes) (drop-bytes (o .small) headerBytes))
+  sized : AllSized calls
+  sized = newest-sized (callsOf rest .calls) (calls-sized rest (drop-bytes (o .small) (headerWidth (o .values .mark))))
 
   -- Demand 3 holds of its calls,
-  pub walk-demand3 : Demand3 parallel (header h) (history HD (header h) (engineOf (header h) (newTables h) new) (callsIn bytes))
-  walk-demand3 = demand3 (header h) (newTables h) new (callsIn bytes) sized
+  pub walk-demand3 : Demand3 parallel (header h) (history HD (header h) (engineOf (header h) (newTables h) new) calls)
+  walk-demand3 = demand3 (header h) (newTables h) new calls sized
 
   -- its tables agree with what is read of them,
-  pub walk-agrees : Agrees HD (header h) (valuesOf (after HD (header h) (engineOf (header h) (newTables h) new) (callsIn bytes)))
-      (reading HD (history HD (header h) (engineOf (header h) (newTables h) new) (callsIn bytes)))
-  walk-agrees = tables-follow (header h) (newTables h) new (callsIn bytes) sized
+  pub walk-agrees : Agrees HD (header h) (valuesOf (after HD (header h) (engineOf (header h) (newTables h) new) calls))
+      (reading HD (history HD (header h) (engineOf (header h) (newTables h) new) calls))
+  walk-agrees = tables-follow (header h) (newTables h) new calls sized
 
   -- and its listing is the lines of their history, the line of refusal 3 if a record gave it, and the last line.
   pub walk-listed : listingOf bytes
-      ≡ listing (history HD (header h) (engineOf (header h) (newTables h) new) (callsIn bytes))
-      ++ lastLines (suc (length (callsIn bytes))) (after HD (header h) (engineOf (header h) (newTables h) new) (callsIn bytes)) (callsOf (drop headerBytes bytes) .ending)
+      ≡ listing (o .values .mark) (history HD (header h) (engineOf (header h) (newTables h) new) calls)
+      ++ lastLines (suc (length calls)) (after HD (header h) (engineOf (header h) (newTables h) new) calls) (callsOf rest .ending)
   unfolding listingOf walkLines listing
-  walk-listed = rw (o .read, o .opened) (lines-traced (header h) (newTables h) new (callsOf (drop headerBytes bytes) .calls) (callsOf (drop headerBytes bytes) .ending))
+  walk-listed = rw (o .read, o .opened) (lines-traced (o .values .mark) (header h) (newTables h) new (callsOf rest .calls) (callsOf rest .ending))

@@ -34,7 +34,7 @@ newest-sized cs s = onto-sized cs [] s tt
 
 -- ---- the lines of a history
 
-module _ (R : Realm) (t : Tables) (new : New R t) where
+module _ (mark : ℕ) (R : Realm) (t : Tables) (new : New R t) where
   abbrev E : Engine HD R
   E = engineOf R t new
 
@@ -43,17 +43,17 @@ module _ (R : Realm) (t : Tables) (new : New R t) where
   history-length (c ∷ cs) = ap suc (history-length cs)
 
   lines-onto : (cs earlier : List Call) (e : Ending)
-      → listing (history HD R E earlier) ++ callLines (suc (length earlier)) (after HD R E earlier) cs e
-      ≡ listing (history HD R E (onto cs earlier)) ++ lastLines (suc (length (onto cs earlier))) (after HD R E (onto cs earlier)) e
+      → listing mark (history HD R E earlier) ++ callLines (suc (length earlier)) (after HD R E earlier) cs e
+      ≡ listing mark (history HD R E (onto cs earlier)) ++ lastLines (suc (length (onto cs earlier))) (after HD R E (onto cs earlier)) e
   unfolding callLines listing
   lines-onto [] earlier e = refl
   lines-onto (c ∷ cs) earlier e =
-      sym (append-assoc (listing (history HD R E earlier)) (callLine (suc (length earlier)) c (called (after HD R E earlier) c .answer)) _)
-      ∙ ap (λ (n : ℕ). (listing (history HD R E earlier) ++ callLine (suc n) c (called (after HD R E earlier) c .answer))
+      sym (append-assoc (listing mark (history HD R E earlier)) (callLine (suc (length earlier)) c (called (after HD R E earlier) c .answer)) _)
+      ∙ ap (λ (n : ℕ). (listing mark (history HD R E earlier) ++ callLine (suc n) c (called (after HD R E earlier) c .answer))
       ++ callLines (suc (suc (length earlier))) (called (after HD R E earlier) c .tables) cs e) (sym (history-length earlier))
       ∙ lines-onto cs (c ∷ earlier) e
 
   pub lines-traced : (cs : List Call) (e : Ending)
-      → listing [] ++ callLines 1 t cs e
-      ≡ listing (history HD R E (newestFirst cs)) ++ lastLines (suc (length (newestFirst cs))) (after HD R E (newestFirst cs)) e
+      → listing mark [] ++ callLines 1 t cs e
+      ≡ listing mark (history HD R E (newestFirst cs)) ++ lastLines (suc (length (newestFirst cs))) (after HD R E (newestFirst cs)) e
   lines-traced cs e = lines-onto cs [] e

@@ -12,7 +12,7 @@ use Rattle.exchange.specs.declared.call.Call.{Call}
 use Rattle.exchange.specs.Calls.{Sized}
 use Rattle.records.specs.declared.record.Record.{Record}
 use Rattle.records.specs.declared.record.Record.the-variants as answer
-use Rattle.records.specs.Headers.{headerBytes, maxFile}
+use Rattle.records.specs.Headers.{headerWidth, maxFile}
 use Rattle.records.specs.Records.{recordAt}
 use Rattle.records.specs.Calls.{broken, Calls, callsOf}
 use Rattle.records.specs.Promises.{step-on, none-left, ends, breaks}
@@ -26,9 +26,10 @@ use Rattle.simulation.specs.Kept.{call-kept}
 use Rattle.walkfile.specs.Listing.{newTables, tablesLine, lastLines, callLines, linesOf, walkLines}
 
 -- A realm that was just opened, and the file that its header stands in.
-pub record Walkable (h : Realm) (bytes : List ℕ) : Type 0 where
+pub record Walkable (h : Realm) (mark : ℕ) (bytes : List ℕ) : Type 0 where
   pub together : Together (newTables h)
-  pub least : headerBytes ≤ length bytes
+  pub least : 13 ≤ headerWidth mark
+  pub whole : headerWidth mark ≤ length bytes
   pub most : length bytes ≤ maxFile
 
 -- Before the record at a place, which would be record `number`; the lines after the header's are written from `first` on.
@@ -54,25 +55,25 @@ pub record BeforeLast (before : List ℕ) (first : ℕ) (all after : List ℕ) (
 -- ---- the header
 
 -- the lines of all records
-abbrev pub recordLines : Realm → List ℕ → List ℕ
-recordLines h bytes = linesOf 1 (newTables h) (callsOf (drop headerBytes bytes))
+abbrev pub recordLines : Realm → (mark : ℕ) → List ℕ → List ℕ
+recordLines h mark bytes = linesOf 1 (newTables h) (callsOf (drop (headerWidth mark) bytes))
 
 nothing-written : (xs : List ℕ) (at : ℕ) → Wrote xs at [] xs at
 unfolding placed
 nothing-written xs at = record { contents = rw (append-nil (take at xs), add-zero at) (sym (take-append-drop at xs)); offset = omega arith }
 
-pub starts : (bytes before : List ℕ) (h : Realm) (first : ℕ) → Walkable h bytes → first ≤ 24 → 24 ≤ length before
-    → BeforeRecord bytes before first (recordLines h bytes) before (newTables h) 13 1 first
-starts bytes before h first w few room =
+pub starts : (bytes before : List ℕ) (h : Realm) (mark first : ℕ) {at : ℕ} → at ≡ headerWidth mark → Walkable h mark bytes → first ≤ 24 → 24 ≤ length before
+    → BeforeRecord bytes before first (recordLines h mark bytes) before (newTables h) at 1 first
+starts bytes before h mark first e w few room =
     record {
       together = w .together;
-      inside = w .least;
-      count = omega arith;
+      inside = omega (arith, e, w .whole);
+      count = omega (arith, e, w .least);
       short = omega (arith, few);
       room = omega (arith, few, room);
       lines = [];
       wrote = nothing-written before first;
-      rest = refl;
+      rest = ap (λ (k : ℕ). linesOf 1 (newTables h) (callsOf (drop k bytes))) e;
     }
 
 module _ (bytes before : List ℕ) (first : ℕ) (all after : List ℕ) (t : Tables) (at number end : ℕ) (s : BeforeRecord bytes before first all after t at number end) where
@@ -146,8 +147,8 @@ pub ready-as : {before : List ℕ} {first : ℕ} {all after after′ : List ℕ}
     → BeforeLast before first all after t end → BeforeLast before first all after′ t end′
 ready-as p q s = rw (p, q) s
 
-pub finishes : (before after₀ after last bytes : List ℕ) (h : Realm) (first : ℕ) (t : Tables) (end r : ℕ) → Wrote before 0 headerLine after₀ first
-    → BeforeLast after₀ first (recordLines h bytes) after t end → Wrote after end (tablesLine t) last r → Wrote before 0 (walkLines h bytes) last r
+pub finishes : (before after₀ after last bytes : List ℕ) (h : Realm) (mark first : ℕ) (t : Tables) (end r : ℕ) → Wrote before 0 (headerLine mark) after₀ first
+    → BeforeLast after₀ first (recordLines h mark bytes) after t end → Wrote after end (tablesLine t) last r → Wrote before 0 (walkLines h mark bytes) last r
 unfolding walkLines
-finishes before after₀ after last bytes h first t end r w₀ s w =
+finishes before after₀ after last bytes h mark first t end r w₀ s w =
     joined (omega arith) w₀ (wrote-as (s .rest) (joined (s .room) (s .wrote) w))

@@ -6,7 +6,8 @@ use Prim.Native.Nat.{ℕ, _<_, _≤_}
 use native.Mathlib.Nat.{zero-add}
 use borrow.Author.Tests.{lt-ltb, le-ltb}
 use lib.ListN.{length}
-use Rattle.records.specs.declared.header.Header.the-variants as header
+use Rattle.exchange.specs.declared.header.Header.{Header}
+use Rattle.records.specs.declared.header.Heading.the-variants as header
 use Rattle.records.specs.Headers.{headerOf}
 use Rattle.lines.specs.Lines.{fileLine}
 use Rattle.fields.specs.Placed.{Wrote}
@@ -20,14 +21,14 @@ module _ (bytes : List ℕ) where
   unfolding listingOf
   header-refused refusal e = sym (ap (headerLines bytes) e)
 
-  module _ (n flags ls la : ℕ) (e : headerOf bytes ≡ header.Read n flags ls la) where
-    pub opening-refused : (refusal : ℕ) → openingOf n flags ls la ≡ opening.Refused refusal → fileLine 0 refusal ≡ listingOf bytes
+  module _ (g : Header) (e : headerOf bytes ≡ header.Read g) where
+    pub opening-refused : (refusal : ℕ) → openingOf g ≡ opening.Refused refusal → fileLine 0 refusal ≡ listingOf bytes
     unfolding listingOf
-    opening-refused refusal o = sym (ap (headerLines bytes) e ∙ ap (openingLines bytes) o)
+    opening-refused refusal o = sym (ap (headerLines bytes) e ∙ ap (openingLines (g .mark) bytes) o)
 
-    pub opened : (h : Realm) → openingOf n flags ls la ≡ opening.Open h → walkLines h bytes ≡ listingOf bytes
+    pub opened : (h : Realm) → openingOf g ≡ opening.Open h → walkLines h (g .mark) bytes ≡ listingOf bytes
     unfolding listingOf
-    opened h o = sym (ap (headerLines bytes) e ∙ ap (openingLines bytes) o)
+    opened h o = sym (ap (headerLines bytes) e ∙ ap (openingLines (g .mark) bytes) o)
 
 module _ (file buffer : List ℕ) where
   pub not-listed : length buffer < listingBytes → no-room buffer ≡ listed file buffer

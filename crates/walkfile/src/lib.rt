@@ -9,8 +9,8 @@ use marks::members;
 use realm::header::Opening;
 use realm::header::Realm;
 use realm::header::open_realm;
-use records::header::HEADER_BYTES;
-use records::header::Header;
+use records::header::Heading;
+use records::header::header_width;
 use records::header::read_header;
 use records::record::REFUSE_RECORD;
 use records::record::Record;
@@ -33,19 +33,19 @@ pub enum Listing {
     NoRoom,
 }
 
-// The listing of a file whose header opened a realm.
-fn walk_records(h: Realm, file: &[u8], out: &mut [u8]) -> usize
-    requires { ⌜ Walkable h (now file) × (listingBytes ≤ length (now out)) ⌝ }
-    ensures { λ r. ⌜ Wrote (now (out .entry)) 0 (walkLines h (now (file .entry))) (now (out .exit)) r ⌝ }
+// The listing of a file whose header, of this mark, opened a realm.
+fn walk_records(h: Realm, mark: u16, file: &[u8], out: &mut [u8]) -> usize
+    requires { ⌜ Walkable h mark (now file) × (listingBytes ≤ length (now out)) ⌝ }
+    ensures { λ r. ⌜ Wrote (now (out .entry)) 0 (walkLines h mark (now (file .entry))) (now (out .exit)) r ⌝ }
 {
     let mut terms = [0u64; 512];
     let mut runs = [0u32; 448];
     let mut wire = [0u64; 8];
     let mut cache = [EMPTY; 16];
     let mut realm = h;
-    let mut at = HEADER_BYTES;
+    let mut at = header_width(mark);
     let mut number: u32 = 1;
-    let mut end = write_header_line(out, 0);
+    let mut end = write_header_line(out, 0, mark);
     loop {
         let Record::Call {
             call: next_call,
@@ -85,15 +85,10 @@ pub fn list(file: &[u8], out: &mut [u8]) -> Listing
         return Listing::NoRoom;
     }
     match read_header(file) {
-        Header::Refused(refusal) => Listing::Written(write_file_line(out, 0, 0, refusal)),
-        Header::Read {
-            n,
-            flags,
-            ticket_life,
-            auth_life,
-        } => match open_realm(n, flags, ticket_life, auth_life) {
+        Heading::Refused(refusal) => Listing::Written(write_file_line(out, 0, 0, refusal)),
+        Heading::Read(header) => match open_realm(header) {
             Opening::Refused(refusal) => Listing::Written(write_file_line(out, 0, 0, refusal)),
-            Opening::Open(h) => Listing::Written(walk_records(h, file, out)),
+            Opening::Open(h) => Listing::Written(walk_records(h, header.mark, file, out)),
         },
     }
 }

@@ -1,29 +1,36 @@
--- A walk as bytes (document 01, "File and listing"): "Numbers in the file are high byte first. Each record has a two-byte mark
--- before it".
+-- A walk as bytes (document 01, "File and listing"): "Each record has a two-byte mark before it".
 -- Assumes nothing.
 use mathlib.Core.List.{List, [], _∷_, _++_}
-use Prim.Native.Nat.{ℕ, _/_, _%_}
-use Rattle.records.specs.Headers.{headerMark}
+use Prim.Native.Nat.{ℕ}
+use Rattle.exchange.specs.declared.header.Flags.{Flags}
+use Rattle.exchange.specs.declared.header.Flags.the-variants.{Bits16, Bits32}
+use Rattle.exchange.specs.declared.header.Header.{Header}
+use Rattle.exchange.specs.declared.header.Lookup.{Lookup}
+use Rattle.exchange.specs.declared.header.Lookup.the-variants.{Found, Missing}
+use Rattle.exchange.specs.Formats.{formatOf}
+use Rattle.fields.specs.Bytes.{low, bytes16, bytes32}
 use Rattle.records.specs.Records.{termMark, stepMark}
 use Rattle.raw_records.specs.declared.raw.RawRecord.{RawRecord}
 use Rattle.raw_records.specs.declared.raw.RawRecord.the-variants.{Term, Step, Unknown}
 
--- the lowest byte of a number, and the one above it
-abbrev pub low : ℕ → ℕ
-low x = x % 256
+-- "flags (2)", or "32 bits of flags"
+abbrev pub flagsInBytes : Flags → ℕ → List ℕ
+flagsInBytes Bits16 flags = bytes16 flags
+flagsInBytes Bits32 flags = bytes32 flags
 
-abbrev pub high : ℕ → ℕ
-high x = x / 256 % 256
+-- "HD, n (1 byte), flags (2), Ls (4), La (4)", and HW "laid out as HD"; a mark that is not known has no header
+abbrev pub frontInBytes : Flags → Header → List ℕ
+frontInBytes width g = bytes16 (g .mark) ++ g .n ∷ flagsInBytes width (g .flags)
 
-abbrev pub bytes16 : ℕ → List ℕ
-bytes16 x = high x ∷ low x ∷ []
+abbrev pub livesInBytes : (ls la : ℕ) → List ℕ
+livesInBytes ls la = bytes32 ls ++ bytes32 la
 
-abbrev pub bytes32 : ℕ → List ℕ
-bytes32 x = bytes16 (x / 65536) ++ bytes16 x
+abbrev pub headerAs : Lookup → Header → List ℕ
+headerAs (Found f) g = frontInBytes (f .flags) g ++ livesInBytes (g .ls) (g .la)
+headerAs Missing g = []
 
--- "HD, n (1 byte), flags (2), Ls (4), La (4)"
-unfoldable pub headerInBytes : (n flags ls la : ℕ) → List ℕ
-headerInBytes n flags ls la = bytes16 headerMark ++ n ∷ bytes16 flags ++ bytes32 ls ++ bytes32 la
+unfoldable pub headerInBytes : Header → List ℕ
+headerInBytes g = headerAs (formatOf (g .mark)) g
 
 -- "TM, kind (1), L (2), R (2); ST, step (1), run (1), a (1), b (1), m (2), t (4)"; what is no record has no bytes
 unfoldable pub recordInBytes : RawRecord → List ℕ
@@ -35,5 +42,5 @@ abbrev pub recordsInBytes : List RawRecord → List ℕ
 recordsInBytes [] = []
 recordsInBytes (raw ∷ raws) = recordInBytes raw ++ recordsInBytes raws
 
-unfoldable pub fileOf : (n flags ls la : ℕ) → List RawRecord → List ℕ
-fileOf n flags ls la raws = headerInBytes n flags ls la ++ recordsInBytes raws
+unfoldable pub fileOf : (g : Header) → List RawRecord → List ℕ
+fileOf g raws = headerInBytes g ++ recordsInBytes raws

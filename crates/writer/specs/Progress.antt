@@ -6,14 +6,21 @@ use Prim.Native.Nat.{ℕ, zero, suc, _+_, _*_, _-_, _/_, _<_, _≤_}
 use native.Mathlib.Omega.{arith}
 use lib.ListN.{length, drop, length-append, length-drop}
 use borrow.Rule.Slice.PartMut.{midOf, putMid}
-use Rattle.records.specs.Headers.{maxFile}
+use Rattle.exchange.specs.declared.header.Flags.{Flags}
+use Rattle.exchange.specs.declared.header.Flags.the-variants.{Bits16, Bits32}
+use Rattle.exchange.specs.declared.header.Header.{Header}
+use Rattle.exchange.specs.declared.header.Lookup.{Lookup}
+use Rattle.exchange.specs.declared.header.Lookup.the-variants.{Found, Missing}
+use Rattle.exchange.specs.Formats.{formatOf}
+use Rattle.records.specs.Headers.{maxFile, livesAt, formatBytes, headerWidth}
 use Rattle.raw_records.specs.declared.raw.RawRecord.{RawRecord}
 use Rattle.raw_records.specs.declared.raw.RawRecord.the-variants.{Term, Step, Unknown}
 use Rattle.raw_records.specs.Raw.{recordsOf, rawAt, record-next, none-left, cut-short}
 use Rattle.raw_records.specs.Passing.{recordsFrom}
 use Rattle.fields.specs.Parts.{part-wrote, nothing-wrote}
 use Rattle.fields.specs.Placed.{Wrote, joined, wrote-as}
-use Rattle.writer.specs.File.{low, high, headerInBytes, recordInBytes, recordsInBytes}
+use Rattle.fields.specs.Bytes.{low, high}
+use Rattle.writer.specs.File.{frontInBytes, livesInBytes, headerAs, headerInBytes, recordInBytes, recordsInBytes}
 
 -- ---- definitions
 
@@ -36,9 +43,21 @@ record-short (Term kind l r) = omega arith
 record-short (Step step run a b m t) = omega arith
 record-short Unknown = omega arith
 
-pub header-long : (n flags ls la : ℕ) → length (headerInBytes n flags ls la) ≡ 13
+pub front-long : (width : Flags) (g : Header) → length (frontInBytes width g) ≡ livesAt width
+front-long Bits16 g = refl
+front-long Bits32 g = refl
+
+pub header-is : (g : Header) (l : Lookup) → formatOf (g .mark) ≡ l → headerAs l g ≡ headerInBytes g
 unfolding headerInBytes
-header-long n flags ls la = refl
+header-is g l e = ap (λ (x : Lookup). headerAs x g) (sym e)
+
+pub header-long : (g : Header) → length (headerInBytes g) ≡ headerWidth (g .mark)
+unfolding headerInBytes headerWidth
+header-long g = by (formatOf (g .mark))
+  where
+    by : (l : Lookup) → length (headerAs l g) ≡ formatBytes l
+    by (Found f) = length-append (frontInBytes (f .flags) g) (livesInBytes (g .ls) (g .la)) ∙ ap (λ (k : ℕ). k + 8) (front-long (f .flags) g)
+    by Missing = refl
 
 module _ (words : List ℕ) (i : ℕ) where
   pub body-next : i * 7 + 7 ≤ length words → recordsInBytes (recordsFrom words i) ≡ recordInBytes (rawAt words (i * 7)) ++ recordsInBytes (recordsFrom words (i + 1))
@@ -88,12 +107,19 @@ module _ (step run a b m t : ℕ) where
   unfolding recordInBytes
   step-room e h = rw e at h
 
-module _ (n flags ls la : ℕ) where
-  pub header-bytes : {b₃ b₄ b₅ b₆ b₇ b₈ b₉ c₀ c₁ c₂ : ℕ} → b₃ ≡ high flags → b₄ ≡ low flags → b₅ ≡ high (ls / 65536) → b₆ ≡ low (ls / 65536) → b₇ ≡ high ls
-      → b₈ ≡ low ls → b₉ ≡ high (la / 65536) → c₀ ≡ low (la / 65536) → c₁ ≡ high la → c₂ ≡ low la
-      → 0x48 ∷ 0x44 ∷ n ∷ b₃ ∷ b₄ ∷ b₅ ∷ b₆ ∷ b₇ ∷ b₈ ∷ b₉ ∷ c₀ ∷ c₁ ∷ c₂ ∷ [] ≡ headerInBytes n flags ls la
-  unfolding headerInBytes
-  header-bytes e₃ e₄ e₅ e₆ e₇ e₈ e₉ f₀ f₁ f₂ = rw (e₃, e₄, e₅, e₆, e₇, e₈, e₉, f₀, f₁, f₂)
+module _ (g : Header) where
+  pub narrow-bytes : {b₀ b₁ b₃ b₄ : ℕ} → b₀ ≡ high (g .mark) → b₁ ≡ low (g .mark) → b₃ ≡ high (g .flags) → b₄ ≡ low (g .flags)
+      → b₀ ∷ b₁ ∷ g .n ∷ b₃ ∷ b₄ ∷ [] ≡ frontInBytes Bits16 g
+  narrow-bytes e₀ e₁ e₃ e₄ = rw (e₀, e₁, e₃, e₄)
+
+  pub wide-bytes : {b₀ b₁ b₃ b₄ b₅ b₆ : ℕ} → b₀ ≡ high (g .mark) → b₁ ≡ low (g .mark) → b₃ ≡ high (g .flags / 65536) → b₄ ≡ low (g .flags / 65536)
+      → b₅ ≡ high (g .flags) → b₆ ≡ low (g .flags) → b₀ ∷ b₁ ∷ g .n ∷ b₃ ∷ b₄ ∷ b₅ ∷ b₆ ∷ [] ≡ frontInBytes Bits32 g
+  wide-bytes e₀ e₁ e₃ e₄ e₅ e₆ = rw (e₀, e₁, e₃, e₄, e₅, e₆)
+
+pub lives-bytes : (ls la : ℕ) {b₀ b₁ b₂ b₃ b₄ b₅ b₆ b₇ : ℕ} → b₀ ≡ high (ls / 65536) → b₁ ≡ low (ls / 65536) → b₂ ≡ high ls → b₃ ≡ low ls
+    → b₄ ≡ high (la / 65536) → b₅ ≡ low (la / 65536) → b₆ ≡ high la → b₇ ≡ low la
+    → b₀ ∷ b₁ ∷ b₂ ∷ b₃ ∷ b₄ ∷ b₅ ∷ b₆ ∷ b₇ ∷ [] ≡ livesInBytes ls la
+lives-bytes ls la e₀ e₁ e₂ e₃ e₄ e₅ e₆ e₇ = rw (e₀, e₁, e₂, e₃, e₄, e₅, e₆, e₇)
 
 pub unknown-wrote : (xs : List ℕ) {raw : RawRecord} → raw ≡ Unknown → Wrote xs 0 (recordInBytes raw) xs 0
 unfolding recordInBytes

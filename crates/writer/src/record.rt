@@ -1,13 +1,20 @@
 // The bytes of one record, put at the front of a lent part of the buffer. Each function answers how many bytes it wrote.
+use exchange::header::Flags;
+use exchange::header::Header;
+use exchange::header::Lookup;
+use exchange::header::format_of;
 use raw_records::raw::RawRecord;
 use records::record::STEP_BYTES;
 use records::record::TERM_BYTES;
 ghost use mathlib.Core.Path.{_≡_};
-ghost use Prim.Native.Nat.{_≤_};
+ghost use mathlib.Core.List.{_++_};
+ghost use Prim.Native.Nat.{_+_, _≤_};
 ghost use lib.ListN.{length};
 ghost use Rattle.fields.specs.Placed.{Wrote};
 ghost use Rattle.raw_records.specs.declared.raw.RawRecord.the-variants.{Term, Step};
-ghost use Rattle.writer.specs.File.{low, headerInBytes, recordInBytes};
+ghost use Rattle.fields.specs.Bytes.{low};
+ghost use Rattle.records.specs.Headers.{livesAt, headerWidth};
+ghost use Rattle.writer.specs.File.{frontInBytes, livesInBytes, headerInBytes, recordInBytes};
 
 // The lowest byte.
 fn low(x: u32) -> u8
@@ -16,25 +23,55 @@ fn low(x: u32) -> u8
     (x % 256) as u8
 }
 
-// HD, n, flags, Ls, La.
-pub fn write_header(out: &mut [u8], n: u8, flags: u16, ls: u32, la: u32) -> usize
-    requires { ⌜ 13 ≤ length (now out) ⌝ }
-    ensures { λ r. ⌜ Wrote (now (out .entry)) 0 (headerInBytes n flags ls la) (now (out .exit)) r ⌝ }
+// The mark, n and the flags.
+fn write_front(out: &mut [u8], width: Flags, header: Header) -> usize
+    requires { ⌜ livesAt width ≤ length (now out) ⌝ }
+    ensures { λ r. ⌜ Wrote (now (out .entry)) 0 (frontInBytes width header) (now (out .exit)) r ⌝ }
 {
-    let flags_low = flags as u32;
-    let flags_high = flags_low / 256;
+    let mark = header.mark as u32;
+    let mark_high = mark / 256;
+    let flags = header.flags;
+    let flags_high = flags / 256;
+    match width {
+        Flags::Bits16 => {
+            let front = [
+                low(mark_high),
+                low(mark),
+                header.n,
+                low(flags_high),
+                low(flags),
+            ];
+            bytes::copy(&front, out)
+        }
+        Flags::Bits32 => {
+            let flags_upper = flags / 65536;
+            let flags_first = flags_upper / 256;
+            let front = [
+                low(mark_high),
+                low(mark),
+                header.n,
+                low(flags_first),
+                low(flags_upper),
+                low(flags_high),
+                low(flags),
+            ];
+            bytes::copy(&front, out)
+        }
+    }
+}
+
+// Ls and La.
+fn write_lives(out: &mut [u8], ls: u32, la: u32) -> usize
+    requires { ⌜ 8 ≤ length (now out) ⌝ }
+    ensures { λ r. ⌜ Wrote (now (out .entry)) 0 (livesInBytes ls la) (now (out .exit)) r ⌝ }
+{
     let ls_upper = ls / 65536;
     let ls_first = ls_upper / 256;
     let ls_third = ls / 256;
     let la_upper = la / 65536;
     let la_first = la_upper / 256;
     let la_third = la / 256;
-    let record = [
-        b'H',
-        b'D',
-        n,
-        low(flags_high),
-        low(flags_low),
+    let lives = [
         low(ls_first),
         low(ls_upper),
         low(ls_third),
@@ -44,7 +81,30 @@ pub fn write_header(out: &mut [u8], n: u8, flags: u16, ls: u32, la: u32) -> usiz
         low(la_third),
         low(la),
     ];
-    bytes::copy(&record, out)
+    bytes::copy(&lives, out)
+}
+
+fn write_values(out: &mut [u8], width: Flags, header: Header) -> usize
+    requires { ⌜ livesAt width + 8 ≤ length (now out) ⌝ }
+    ensures { λ r. ⌜ Wrote (now (out .entry)) 0 (frontInBytes width header ++ livesInBytes (header .ls) (header .la)) (now (out .exit)) r ⌝ }
+{
+    let end = write_front(out, width, header);
+    let lives = write_lives(&mut out[end..], header.ls, header.la);
+    end + lives
+}
+
+// A header in the layout of its mark; with a mark that is not known it has no bytes.
+pub fn write_header(out: &mut [u8], header: Header) -> usize
+    requires { ⌜ headerWidth (header .mark) ≤ length (now out) ⌝ }
+    ensures { λ r. ⌜ Wrote (now (out .entry)) 0 (headerInBytes header) (now (out .exit)) r ⌝ }
+{
+    match format_of(header.mark) {
+        Lookup::Found(format) => {
+            let width = format.flags;
+            write_values(out, width, header)
+        }
+        Lookup::Missing => 0,
+    }
 }
 
 // TM, kind, L, R.

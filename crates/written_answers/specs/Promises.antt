@@ -5,12 +5,14 @@
 use mathlib.Core.Path.{_≡_, refl, sym, ap, _∙_}
 use mathlib.Core.Bool.{false}
 use mathlib.Core.List.{List, _++_}
-use Prim.Native.Nat.{ℕ, _^_, _<_}
+use Prim.Native.Nat.{ℕ}
 use native.Mathlib.Omega.{arith}
 use lib.ListN.{take, drop}
 use Rattle.exchange.specs.declared.call.Answer.the-variants.{Refused}
 use Rattle.exchange.specs.declared.call.Call.{Call}
+use Rattle.exchange.specs.declared.header.Header.{Header}
 use Rattle.exchange.specs.Calls.{Sized}
+use Rattle.exchange.specs.Formats.{HeaderSized}
 use Rattle.realm.specs.declared.header.Opening.the-variants.{Open}
 use Rattle.realm.specs.declared.header.Realm.{Realm}
 use Rattle.realm.specs.Opening.{newRealm, openingOf, opened}
@@ -53,28 +55,28 @@ module _ (t : Tables) (w : Together t) (c : Call) (sized : Sized c) where
 
 -- ---- a walk that was written
 
-module _ (n flags ls la : ℕ) (n-fits : n < 2 ^ 8) (ls-fits : ls < 2 ^ 32) (la-fits : la < 2 ^ 32) (words : List ℕ) (w : Words32 words)
-    (buffer : List ℕ) (at count : ℕ) (after : List ℕ) (e : writeOf n flags ls la words buffer at ≡ writeOutcome (Written count) after) where
+module _ (g : Header) (fits : HeaderSized g) (words : List ℕ) (w : Words32 words)
+    (buffer : List ℕ) (at count : ℕ) (after : List ℕ) (e : writeOf g words buffer at ≡ writeOutcome (Written count) after) where
   abbrev realm : Realm
-  realm = newRealm n flags ls la
+  realm = newRealm g
 
   -- Its header opens a realm,
-  pub walk-opens : openingOf n flags ls la ≡ Open realm
-  walk-opens = sym (opened n flags ls la (written-passes n flags ls la words buffer at count after e .header))
+  pub walk-opens : openingOf g ≡ Open realm
+  walk-opens = sym (opened g refl (written-passes g words buffer at count after e .header))
 
   -- and none of its records, which are read to the end of the file (`read-back` of `written_walks`), is refused for its own fields.
   pub walk-taken : TakenPast (newTables realm) (callsFrom (recordsOf words))
   unfolding newTables
   walk-taken =
-      let p = written-passes n flags ls la words buffer at count after e in
-      walks.taken-past n (recordsOf words) (records-fit n n-fits words w (p .records)) (p .records) (newTables realm)
-      (new-together n flags ls la realm (newTables realm) ls-fits la-fits walk-opens (lends realm)) refl
+      let p = written-passes g words buffer at count after e in
+      walks.taken-past (g .n) (recordsOf words) (records-fit (g .n) (fits .0) words w (p .records)) (p .records) (newTables realm)
+      (new-together g realm (newTables realm) (fits .2) (fits .3) walk-opens (lends realm)) refl
 
   -- So the listing of its bytes has `ok` for the header, a line for each record in turn, and the last line: 1, 2 and 3 do not arise.
-  pub written-listed : flags < 2 ^ 16 → listingOf (take count (drop at after)) ≡ headerLine ++ callLines 1 (newTables realm) (callsFrom (recordsOf words)) ended
+  pub written-listed : listingOf (take count (drop at after)) ≡ headerLine (g .mark) ++ callLines 1 (newTables realm) (callsFrom (recordsOf words)) ended
   unfolding listingOf walkLines
-  written-listed flags-fits =
-      let r = read-back n flags ls la words buffer at count after e n-fits flags-fits ls-fits la-fits w in
+  written-listed =
+      let r = read-back g words buffer at count after e fits w in
       let file = take count (drop at after) in
-      ap (headerLines file) (r .header) ∙ ap (openingLines file) walk-opens
-      ∙ ap (λ (cs : Calls). headerLine ++ callLines 1 (newTables realm) (cs .calls) (cs .ending)) (r .records)
+      ap (headerLines file) (r .header) ∙ ap (openingLines (g .mark) file) walk-opens
+      ∙ ap (λ (cs : Calls). headerLine (g .mark) ++ callLines 1 (newTables realm) (cs .calls) (cs .ending)) (r .records)

@@ -7,14 +7,23 @@ use Prim.Native.Nat.{ℕ, zero, suc, _+_, _*_, _/_, _^_, _<_, _≤_}
 use native.Mathlib.Omega.{arith}
 use borrow.Author.Tests.{eq-eqb, ne-eqb, eqb-true}
 use lib.ListN.{length, drop, length-drop}
-use lib.Seq.{drop-cons}
+use lib.Pow.{pow-mono}
+use lib.Seq.{drop-cons, drop-append-seam}
 use Rattle.exchange.specs.declared.call.Call.{Call}
 use Rattle.exchange.specs.declared.call.Call.the-variants as call
-use Rattle.realm.specs.Opening.{headerFits}
-use Rattle.records.specs.declared.header.Header.{Header}
-use Rattle.records.specs.declared.header.Header.the-variants as header
+use Rattle.exchange.specs.declared.header.Flags.{Flags}
+use Rattle.exchange.specs.declared.header.Flags.the-variants.{Bits16, Bits32}
+use Rattle.exchange.specs.declared.header.Format.{Format}
+use Rattle.exchange.specs.declared.header.Header.{Header}
+use Rattle.exchange.specs.declared.header.Lookup.the-variants.{Found}
+use Rattle.exchange.specs.Formats.{formatOf}
+use Rattle.exchange.specs.Laws.Formats.{bits, Sound, format-found}
+use Rattle.realm.specs.Header.{HeaderTaken, flags-small}
+use Rattle.realm.specs.Opening.{headerRefusal}
+use Rattle.records.specs.declared.header.Heading.{Heading}
+use Rattle.records.specs.declared.header.Heading.the-variants as header
 use Rattle.records.specs.Fields.{Bytes, byte, number16, number32, begins, begins-by, begins-whole, drop-bytes}
-use Rattle.records.specs.Headers.{headerMark, maxFile, headerOf}
+use Rattle.records.specs.Headers.{maxFile, livesAt, formatBytes, headerWidth, fieldsOf, headerOf, width-is}
 use Rattle.records.specs.Headers as headers
 use Rattle.records.specs.Records.{termMark, stepMark, termBytes, stepBytes, termCall, stepCall, Front, whole, frontOf, front-term, front-step, Finds, at-end, at-term, at-step, at-fault, front-finds}
 use Rattle.records.specs.Calls.{Calls, ended, broken, then, onward, calls-are, calls-end}
@@ -24,16 +33,18 @@ use Rattle.raw_records.specs.declared.raw.RawRecord.the-variants.{Term, Step, U
 use Rattle.raw_records.specs.Calls.{callsFrom, rawFor, wordsFor, RawSized, AllRawSized, records-for}
 use Rattle.raw_records.specs.Refusals.{recordsRefusal}
 use Rattle.fields.specs.Placed.{placed}
-use Rattle.writer.specs.File.{low, high, bytes16, bytes32, headerInBytes, recordInBytes, recordsInBytes, fileOf}
-use Rattle.writer.specs.Write.{writeOutcome, byRefusal, writeRefusal, writeOf, WalkPasses, passes-zero}
+use Rattle.fields.specs.Bytes.{low, high, bytes16, bytes32}
+use Rattle.writer.specs.File.{headerAs, headerInBytes, recordInBytes, recordsInBytes, fileOf}
+use Rattle.writer.specs.Progress.{header-is, header-long}
+use Rattle.writer.specs.Write.{writeOutcome, byRefusal, writeRefusal, writeOf, WalkPasses, file-length, passes-zero}
 use Rattle.writer.specs.declared.walk.Filing.the-variants.{Written}
 
 -- ---- definitions
 
 -- a file reads as this header and these calls, to its end
-pub record ReadsAs (bytes : List ℕ) (n flags ls la : ℕ) (calls : List Call) : Type 0 where
-  pub header : headerOf bytes ≡ header.Read n flags ls la
-  pub records : reading.callsOf (drop headers.headerBytes bytes) ≡ record { calls = calls; ending = ended }
+pub record ReadsAs (bytes : List ℕ) (g : Header) (calls : List Call) : Type 0 where
+  pub header : headerOf bytes ≡ header.Read g
+  pub records : reading.callsOf (drop (headerWidth (g .mark)) bytes) ≡ record { calls = calls; ending = ended }
 
 -- ---- numbers
 
@@ -81,25 +92,51 @@ body-back (Term kind l r ∷ raws) f = term-back kind l r (recordsInBytes raws) 
 body-back (Step step run a b m t ∷ raws) f = step-back step run a b m t (recordsInBytes raws) (f .0) ∙ ap (then (call.Step step run a b m t)) (body-back raws (f .1))
 body-back (Unknown ∷ raws) f = absurd (f .0)
 
-module _ (n flags ls la : ℕ) (raws : List RawRecord) where
-  header-back : flags < 2 ^ 16 → ls < 2 ^ 32 → la < 2 ^ 32 → length (fileOf n flags ls la raws) ≤ maxFile
-      → headerOf (fileOf n flags ls la raws) ≡ header.Read n flags ls la
-  unfolding fileOf headerInBytes
-  header-back hf hs ha short =
-      let bytes : List ℕ = fileOf n flags ls la raws in
-      sym (headers.header-read bytes short (begins-here headerMark 13 bytes (omega arith) refl))
-      ∙ fields n {y = number16 bytes 3} {z = number32 bytes 5} {w = number32 bytes 9} (back16 flags hf) (back32 ls hs) (back32 la ha)
-    where
-      fields : (x : ℕ) {y z w y′ z′ w′ : ℕ} → y ≡ y′ → z ≡ z′ → w ≡ w′ → header.Read x y z w ≡ header.Read x y′ z′ w′
-      fields x p q r = rw (p, q, r)
+-- the values are read from where they were written
+fields-back : (width : Flags) (mark most : ℕ) (g : Header) (rest : List ℕ) → mark ≡ g .mark → g .flags < 2 ^ bits width → g .ls < 2 ^ 32 → g .la < 2 ^ 32
+    → let f : Format = record { mark = mark; flags = width; most = most } in
+    fieldsOf f (headerAs (Found f) g ++ rest) ≡ g
+fields-back Bits16 mark most g rest e hf hs ha = rw (e, back16 (g .flags) hf, back32 (g .ls) hs, back32 (g .la) ha)
+fields-back Bits32 mark most g rest e hf hs ha = rw (e, back32 (g .flags) hf, back32 (g .ls) hs, back32 (g .la) ha)
 
-  calls-back : AllRawSized raws → reading.callsOf (drop headers.headerBytes (fileOf n flags ls la raws)) ≡ record { calls = callsFrom raws; ending = ended }
-  unfolding fileOf headerInBytes
-  calls-back f = body-back raws f
+module _ (g : Header) (raws : List RawRecord) (t : HeaderTaken g) where
+  abbrev f : Format
+  f = t .format
 
-  pub file-back : flags < 2 ^ 16 → ls < 2 ^ 32 → la < 2 ^ 32 → length (fileOf n flags ls la raws) ≤ maxFile → AllRawSized raws
-      → ReadsAs (fileOf n flags ls la raws) n flags ls la (callsFrom raws)
-  file-back hf hs ha short f = record { header = header-back hf hs ha short; records = calls-back f }
+  row : (f .mark ≡ g .mark) × Sound f
+  row = format-found (g .mark) f (t .known)
+
+  -- the file, in the layout of its mark
+  laid : fileOf g raws ≡ headerAs (Found f) g ++ recordsInBytes raws
+  unfolding fileOf
+  laid = ap (λ (front : List ℕ). front ++ recordsInBytes raws) (sym (header-is g (Found f) (t .known)))
+
+  file-long : length (fileOf g raws) ≡ formatBytes (Found f) + length (recordsInBytes raws)
+  file-long = file-length g raws ∙ ap (λ (k : ℕ). k + length (recordsInBytes raws)) (width-is (g .mark) (Found f) (t .known))
+
+  mark-first : number16 (fileOf g raws) 0 ≡ g .mark
+  mark-first = ap (λ (bytes : List ℕ). number16 bytes 0) laid ∙ back16 (g .mark) (omega (arith, row .0, row .1 .mark-fits))
+
+  flags-fit : g .flags < 2 ^ bits (f .flags)
+  flags-fit =
+      let within : g .n ≤ bits (f .flags) = omega (arith, t .within, row .1 .flag-each) in
+      omega (arith, flags-small g t, pow-mono within)
+
+  header-back : g .ls < 2 ^ 32 → g .la < 2 ^ 32 → length (fileOf g raws) ≤ maxFile → headerOf (fileOf g raws) ≡ header.Read g
+  header-back hs ha short =
+      sym (headers.by-mark (fileOf g raws) short (Found f) (ap formatOf mark-first ∙ t .known))
+      ∙ sym (headers.header-whole f (fileOf g raws) refl (omega (arith, file-long)) refl refl refl)
+      ∙ ap header.Read (ap (fieldsOf f) laid ∙ fields-back (f .flags) (f .mark) (f .most) g (recordsInBytes raws) (row .0) flags-fit hs ha)
+
+  calls-back : AllRawSized raws → reading.callsOf (drop (headerWidth (g .mark)) (fileOf g raws)) ≡ record { calls = callsFrom raws; ending = ended }
+  unfolding fileOf
+  calls-back sized =
+      ap (λ (k : ℕ). reading.callsOf (drop k (fileOf g raws))) (sym (header-long g))
+      ∙ ap reading.callsOf (drop-append-seam (headerInBytes g) (recordsInBytes raws))
+      ∙ body-back raws sized
+
+  pub file-back : g .ls < 2 ^ 32 → g .la < 2 ^ 32 → length (fileOf g raws) ≤ maxFile → AllRawSized raws → ReadsAs (fileOf g raws) g (callsFrom raws)
+  file-back hs ha short sized = record { header = header-back hs ha short; records = calls-back sized }
 
 -- ---- written back
 
@@ -159,12 +196,16 @@ spanned bytes at (suc k) h =
 begins-mark : (mark width : ℕ) (bytes : List ℕ) → begins mark width bytes ≡ true → number16 bytes 0 ≡ mark
 begins-mark mark width bytes h = eqb-true (number16 bytes 0) mark (begins-by mark width bytes (begins-whole mark width bytes h) refl ∙ h)
 
+-- the parts of a header
+parts : {m m′ f f′ s s′ a a′ : List ℕ} (n : ℕ) → m ≡ m′ → f ≡ f′ → s ≡ s′ → a ≡ a′ → (m ++ n ∷ f) ++ s ++ a ≡ (m′ ++ n ∷ f′) ++ s′ ++ a′
+parts n p q r s = rw (p, q, r, s)
+
 module _ (bytes : List ℕ) (b : Bytes bytes) where
   small : (k : ℕ) → byte bytes k < 2 ^ 8
   small k = b .small k
 
-  mark-back : (mark width : ℕ) → begins mark width bytes ≡ true → bytes16 mark ≡ span bytes 0 2
-  mark-back mark width h = sym (mark-high (byte bytes 0) (byte bytes 1) mark (small 0) (small 1) (begins-mark mark width bytes h))
+  mark-back : (mark : ℕ) → number16 bytes 0 ≡ mark → bytes16 mark ≡ span bytes 0 2
+  mark-back mark e = sym (mark-high (byte bytes 0) (byte bytes 1) mark (small 0) (small 1) e)
 
   field16 : (at : ℕ) → bytes16 (number16 bytes at) ≡ byte bytes at ∷ byte bytes (at + 1) ∷ []
   field16 at = bytes16-back (byte bytes at) (byte bytes (at + 1)) (small at) (small (at + 1))
@@ -178,7 +219,7 @@ module _ (bytes : List ℕ) (b : Bytes bytes) where
   term-again : begins termMark termBytes bytes ≡ true → recordInBytes (rawFor (termCall bytes)) ++ drop termBytes bytes ≡ bytes
   unfolding recordInBytes
   term-again h =
-      ap (λ (front : List ℕ). front ++ drop 7 bytes) (parts (mark-back termMark 7 h) (field8 2) (field16 3) (field16 5))
+      ap (λ (front : List ℕ). front ++ drop 7 bytes) (parts (mark-back termMark (begins-mark termMark 7 bytes h)) (field8 2) (field16 3) (field16 5))
       ∙ spanned bytes 0 7 (begins-whole termMark 7 bytes h)
     where
       parts : {m m′ l l′ r r′ : List ℕ} {k k′ : ℕ} → m ≡ m′ → k ≡ k′ → l ≡ l′ → r ≡ r′ → m ++ k ∷ l ++ r ≡ m′ ++ k′ ∷ l′ ++ r′
@@ -187,22 +228,20 @@ module _ (bytes : List ℕ) (b : Bytes bytes) where
   step-again : begins stepMark stepBytes bytes ≡ true → recordInBytes (rawFor (stepCall bytes)) ++ drop stepBytes bytes ≡ bytes
   unfolding recordInBytes
   step-again h =
-      ap (λ (front : List ℕ). front ++ drop 12 bytes) (parts (mark-back stepMark 12 h) (field8 2) (field8 3) (field8 4) (field8 5) (field16 6) (field32 8))
+      ap (λ (front : List ℕ). front ++ drop 12 bytes) (parts (mark-back stepMark (begins-mark stepMark 12 bytes h)) (field8 2) (field8 3) (field8 4) (field8 5) (field16 6) (field32 8))
       ∙ spanned bytes 0 12 (begins-whole stepMark 12 bytes h)
     where
       parts : {m m′ u u′ v v′ : List ℕ} {s s′ r r′ x x′ y y′ : ℕ} → m ≡ m′ → s ≡ s′ → r ≡ r′ → x ≡ x′ → y ≡ y′ → u ≡ u′ → v ≡ v′
           → m ++ s ∷ r ∷ x ∷ y ∷ u ++ v ≡ m′ ++ s′ ∷ r′ ∷ x′ ∷ y′ ∷ u′ ++ v′
       parts p q r s t u v = rw (p, q, r, s, t, u, v)
 
-  header-again : begins headerMark headers.headerBytes bytes ≡ true
-      → headerInBytes (byte bytes 2) (number16 bytes 3) (number32 bytes 5) (number32 bytes 9) ++ drop headers.headerBytes bytes ≡ bytes
-  unfolding headerInBytes
-  header-again h =
-      ap (λ (front : List ℕ). front ++ drop 13 bytes) (parts (byte bytes 2) (mark-back headerMark 13 h) (field16 3) (field32 5) (field32 9))
-      ∙ spanned bytes 0 13 (begins-whole headerMark 13 bytes h)
-    where
-      parts : {m m′ f f′ s s′ a a′ : List ℕ} (n : ℕ) → m ≡ m′ → f ≡ f′ → s ≡ s′ → a ≡ a′ → m ++ n ∷ f ++ s ++ a ≡ m′ ++ n ∷ f′ ++ s′ ++ a′
-      parts n p q r s = rw (p, q, r, s)
+  header-again : (width : Flags) (mark most : ℕ) → number16 bytes 0 ≡ mark → livesAt width + 8 ≤ length bytes
+      → let f : Format = record { mark = mark; flags = width; most = most } in
+      headerAs (Found f) (fieldsOf f bytes) ++ drop (livesAt width + 8) bytes ≡ bytes
+  header-again Bits16 mark most e h =
+      ap (λ (front : List ℕ). front ++ drop 13 bytes) (parts (byte bytes 2) (mark-back mark e) (field16 3) (field32 5) (field32 9)) ∙ spanned bytes 0 13 h
+  header-again Bits32 mark most e h =
+      ap (λ (front : List ℕ). front ++ drop 15 bytes) (parts (byte bytes 2) (mark-back mark e) (field32 3) (field32 7) (field32 11)) ∙ spanned bytes 0 15 h
 
 -- a file that was read to its end is the bytes of its records
 again-within : (fuel : ℕ) (bytes : List ℕ) → length bytes ≤ fuel → Bytes bytes → reading.callsOf bytes .ending ≡ ended
@@ -240,41 +279,40 @@ body-again : (bytes : List ℕ) → Bytes bytes → reading.callsOf bytes .endin
 body-again bytes b e = again-within (length bytes) bytes (omega arith) b e
 
 -- so is a whole file
-module _ (bytes : List ℕ) (b : Bytes bytes) (n flags ls la : ℕ) where
-  found-again : (h : Header) → headers.Finds bytes h → h ≡ header.Read n flags ls la → headerInBytes n flags ls la ++ drop headers.headerBytes bytes ≡ bytes
+module _ (bytes : List ℕ) (b : Bytes bytes) (g : Header) where
+  found-again : (h : Heading) → headers.Finds bytes h → h ≡ header.Read g → headerInBytes g ++ drop (headerWidth (g .mark)) bytes ≡ bytes
   found-again h (headers.too-long l) e = let z : _≡_ {A = ℕ} 0 1 = cc in absurd (omega arith)
-  found-again h (headers.no-header s m) e = let z : _≡_ {A = ℕ} 0 1 = cc in absurd (omega arith)
-  found-again h (headers.a-header s m) e =
-      let en : byte bytes 2 ≡ n = cc in
-      let ef : number16 bytes 3 ≡ flags = cc in
-      let es : number32 bytes 5 ≡ ls = cc in
-      let ea : number32 bytes 9 ≡ la = cc in
-      fields (sym en) (sym ef) (sym es) (sym ea) ∙ header-again bytes b m
-    where
-      fields : {x y z w x′ y′ z′ w′ : ℕ} → x ≡ x′ → y ≡ y′ → z ≡ z′ → w ≡ w′
-          → headerInBytes x y z w ++ drop headers.headerBytes bytes ≡ headerInBytes x′ y′ z′ w′ ++ drop headers.headerBytes bytes
-      fields p q r s = rw (p, q, r, s)
+  found-again h (headers.no-mark s m) e = let z : _≡_ {A = ℕ} 0 1 = cc in absurd (omega arith)
+  found-again h (headers.cut-short s f m l) e = let z : _≡_ {A = ℕ} 0 1 = cc in absurd (omega arith)
+  found-again h (headers.a-header s f m l) e =
+      let same : fieldsOf f bytes ≡ g = cc in
+      let mark : f .mark ≡ number16 bytes 0 = format-found (number16 bytes 0) f m .0 in
+      let known : formatOf (f .mark) ≡ Found f = ap formatOf mark ∙ m in
+      ap (λ (x : Header). headerInBytes x ++ drop (headerWidth (x .mark)) bytes) (sym same)
+      ∙ ap (λ (front : List ℕ). front ++ drop (headerWidth (f .mark)) bytes) (sym (header-is (fieldsOf f bytes) (Found f) known))
+      ∙ ap (λ (k : ℕ). headerAs (Found f) (fieldsOf f bytes) ++ drop k bytes) (width-is (f .mark) (Found f) known)
+      ∙ header-again bytes b (f .flags) (f .mark) (f .most) (sym mark) l
 
-  pub file-again : {calls : List Call} → ReadsAs bytes n flags ls la calls → fileOf n flags ls la (map rawFor calls) ≡ bytes
+  pub file-again : {calls : List Call} → ReadsAs bytes g calls → fileOf g (map rawFor calls) ≡ bytes
   unfolding fileOf
   file-again r =
-      let rest : List ℕ = drop headers.headerBytes bytes in
-      ap (λ (cs : Calls). headerInBytes n flags ls la ++ recordsInBytes (map rawFor (cs .calls))) (sym (r .records))
-      ∙ ap (λ (body : List ℕ). headerInBytes n flags ls la ++ body) (body-again rest (drop-bytes b headers.headerBytes) (ap (λ (cs : Calls). cs .ending) (r .records)))
+      let rest : List ℕ = drop (headerWidth (g .mark)) bytes in
+      ap (λ (cs : Calls). headerInBytes g ++ recordsInBytes (map rawFor (cs .calls))) (sym (r .records))
+      ∙ ap (λ (body : List ℕ). headerInBytes g ++ body) (body-again rest (drop-bytes b (headerWidth (g .mark))) (ap (λ (cs : Calls). cs .ending) (r .records)))
       ∙ found-again (headerOf bytes) (headers.header-finds bytes) (r .header)
 
 -- and the writer puts it there again
-module _ (bytes : List ℕ) (b : Bytes bytes) (n flags ls la : ℕ) (calls : List Call) (r : ReadsAs bytes n flags ls la calls) (buffer : List ℕ) (at : ℕ) where
-  passes : headerFits n flags ls la ≡ true → recordsRefusal n (map rawFor calls) ≡ 0 → at + length bytes ≤ length buffer
-      → WalkPasses n flags ls la (map rawFor calls) (length buffer) at
+module _ (bytes : List ℕ) (b : Bytes bytes) (g : Header) (calls : List Call) (r : ReadsAs bytes g calls) (buffer : List ℕ) (at : ℕ) where
+  passes : headerRefusal g ≡ 0 → recordsRefusal (g .n) (map rawFor calls) ≡ 0 → at + length bytes ≤ length buffer
+      → WalkPasses g (map rawFor calls) (length buffer) at
   passes fits own room =
-      let is = file-again bytes b n flags ls la r in
-      record { short = rw is (headers.header-fields bytes n flags ls la (r .header) .most); header = fits; records = own; room = rw is room }
+      let is = file-again bytes b g r in
+      record { short = rw is (headers.header-fields bytes g (r .header) .most); header = fits; records = own; room = rw is room }
 
-  pub written-again : headerFits n flags ls la ≡ true → recordsRefusal n (map rawFor calls) ≡ 0 → at + length bytes ≤ length buffer
-      → writeOf n flags ls la (wordsFor calls) buffer at ≡ writeOutcome (Written (length bytes)) (placed buffer at bytes)
+  pub written-again : headerRefusal g ≡ 0 → recordsRefusal (g .n) (map rawFor calls) ≡ 0 → at + length bytes ≤ length buffer
+      → writeOf g (wordsFor calls) buffer at ≡ writeOutcome (Written (length bytes)) (placed buffer at bytes)
   unfolding writeOf
   written-again fits own room =
-      ap (λ (raws : List RawRecord). byRefusal (writeRefusal n flags ls la raws (length buffer) at) buffer at (fileOf n flags ls la raws)) (records-for calls)
-      ∙ ap (λ (k : ℕ). byRefusal k buffer at (fileOf n flags ls la (map rawFor calls))) (passes-zero n flags ls la (map rawFor calls) (length buffer) at (passes fits own room))
-      ∙ ap (λ (file : List ℕ). writeOutcome (Written (length file)) (placed buffer at file)) (file-again bytes b n flags ls la r)
+      ap (λ (raws : List RawRecord). byRefusal (writeRefusal g raws (length buffer) at) buffer at (fileOf g raws)) (records-for calls)
+      ∙ ap (λ (k : ℕ). byRefusal k buffer at (fileOf g (map rawFor calls))) (passes-zero g (map rawFor calls) (length buffer) at (passes fits own room))
+      ∙ ap (λ (file : List ℕ). writeOutcome (Written (length file)) (placed buffer at file)) (file-again bytes b g r)

@@ -5,6 +5,7 @@ use mathlib.Core.List.{List}
 use Prim.Native.Nat.{ℕ, zero, suc, _+_, _≤_}
 use native.Mathlib.Omega.{arith}
 use lib.ListN.{length, take, drop}
+use Rattle.exchange.specs.declared.header.Header.{Header}
 use Rattle.raw_records.specs.Raw.{recordsOf}
 use Rattle.fields.specs.Placed.{placed, placed-before, placed-there, placed-behind}
 use Rattle.writer.specs.declared.walk.Filing.the-variants.{Written, Refused}
@@ -12,10 +13,10 @@ use Rattle.writer.specs.File.{fileOf}
 use Rattle.writer.specs.Write.{WriteOutcome, writeOutcome, writeRefusal, byRefusal, writeOf, WalkPasses, zero-passes}
 
 -- what an answer with a count says
-pub record WalkStands (n flags ls la : ℕ) (words buffer : List ℕ) (at count : ℕ) (after : List ℕ) : Type 0 where
-  pub passed : WalkPasses n flags ls la (recordsOf words) (length buffer) at
-  pub count-is : count ≡ length (fileOf n flags ls la (recordsOf words))
-  pub after-is : after ≡ placed buffer at (fileOf n flags ls la (recordsOf words))
+pub record WalkStands (g : Header) (words buffer : List ℕ) (at count : ℕ) (after : List ℕ) : Type 0 where
+  pub passed : WalkPasses g (recordsOf words) (length buffer) at
+  pub count-is : count ≡ length (fileOf g (recordsOf words))
+  pub after-is : after ≡ placed buffer at (fileOf g (recordsOf words))
 
 counted : (k : ℕ) (buffer : List ℕ) (at : ℕ) (file : List ℕ) (count : ℕ) (after : List ℕ) → byRefusal k buffer at file ≡ writeOutcome (Written count) after
     → (k ≡ 0) × (count ≡ length file) × (after ≡ placed buffer at file)
@@ -35,21 +36,21 @@ kept-by zero buffer at file number after e =
     absurd (omega arith)
 kept-by (suc k) buffer at file number after e = sym (ap (λ (o : WriteOutcome). o .buffer) e)
 
-module _ (n flags ls la : ℕ) (words buffer : List ℕ) (at : ℕ) where
+module _ (g : Header) (words buffer : List ℕ) (at : ℕ) where
   abbrev file : List ℕ
-  file = fileOf n flags ls la (recordsOf words)
+  file = fileOf g (recordsOf words)
 
-  pub walk-stands : (count : ℕ) (after : List ℕ) → writeOf n flags ls la words buffer at ≡ writeOutcome (Written count) after → WalkStands n flags ls la words buffer at count after
+  pub walk-stands : (count : ℕ) (after : List ℕ) → writeOf g words buffer at ≡ writeOutcome (Written count) after → WalkStands g words buffer at count after
   unfolding writeOf
   walk-stands count after e =
-      let c = counted (writeRefusal n flags ls la (recordsOf words) (length buffer) at) buffer at file count after e in
-      record { passed = zero-passes n flags ls la (recordsOf words) (length buffer) at (c .0); count-is = c .1; after-is = c .2 }
+      let c = counted (writeRefusal g (recordsOf words) (length buffer) at) buffer at file count after e in
+      record { passed = zero-passes g (recordsOf words) (length buffer) at (c .0); count-is = c .1; after-is = c .2 }
 
-  pub refused-kept : (number : ℕ) (after : List ℕ) → writeOf n flags ls la words buffer at ≡ writeOutcome (Refused number) after → after ≡ buffer
+  pub refused-kept : (number : ℕ) (after : List ℕ) → writeOf g words buffer at ≡ writeOutcome (Refused number) after → after ≡ buffer
   unfolding writeOf
-  refused-kept number after e = kept-by (writeRefusal n flags ls la (recordsOf words) (length buffer) at) buffer at file number after e
+  refused-kept number after e = kept-by (writeRefusal g (recordsOf words) (length buffer) at) buffer at file number after e
 
-  module _ (count : ℕ) (after : List ℕ) (d : WalkStands n flags ls la words buffer at count after) where
+  module _ (count : ℕ) (after : List ℕ) (d : WalkStands g words buffer at count after) where
     within : at ≤ length buffer
     within = omega (arith, d .passed .room)
 

@@ -15,7 +15,7 @@ returns : tie.Need-returns
 unfolding isSet
 returns c =
     let a = c .before .args in
-    sym (ne-eqb (bit (a .flags) (a .p)) 1 (λ e. omega (arith, bit-past 16 (a .flags) (a .p) (omega arith) (omega arith))))
+    sym (ne-eqb (bit (a .flags) (a .p)) 1 (λ e. omega (arith, bit-past 32 (a .flags) (a .p) (omega arith) (omega arith))))
 
 returns-2 : tie.Need-returns-2
 unfolding isSet bit

@@ -15,10 +15,10 @@ returns c = let a = c .before .before .before .args in not-listed (a .file .now)
 walk-records-requires : tie.Need-walk-records-requires
 walk-records-requires c κs =
     let a = c .before .before .before .before .before .before .before .before .before .before .before .before .args in
-    let m = c .before .before .before .before .before .before .n .given in
+    let m = c .before .before .before .before .before .before .header .given in
     let h = c .before .before .h .given in
     let small : Bytes (a .file .now) = record { small = λ k. c .before .before .before .before .before .before .before .before .before .before .before .shared-slice-known .given k .fits } in (
-      walkable (a .file .now) (m .0 .0) (m .0 .1 .0) (m .0 .1 .1 .0) (m .0 .1 .1 .1 .0) (h .0 .0) small (sym (c .before .before .before .before .before .before .before .before .read-header .ensures) ∙ m .1) (sym (c .before .before .before .before .open-realm .ensures) ∙ h .1),
+      walkable (a .file .now) (m .0 .0) (h .0 .0) small (sym (c .before .before .before .before .before .before .before .before .read-header .ensures) ∙ m .1) (sym (c .before .before .before .before .open-realm .ensures) ∙ h .1),
       c .before .before .before .before .before .before .before .before .before .if1 .left,
     )
 
@@ -32,19 +32,19 @@ returns-2 c =
 returns-3 : tie.Need-returns-3
 returns-3 c =
     let a = c .before .before .before .before .before .before .before .before .before .before .before .before .before .before .before .args in
-    let m = c .before .before .before .before .before .before .before .before .before .n .given in
+    let m = c .before .before .before .before .before .before .before .before .before .header .given in
     let k = c .before .before .before .before .before .refusal2 .given in
     is-listed (a .file .now) (a .out .now) (c .before .before .before .before .before .before .before .before .before .before .before .before .if1 .left) (fileLine 0 (k .0 .0))
-    (opening-refused (a .file .now) (m .0 .0) (m .0 .1 .0) (m .0 .1 .1 .0) (m .0 .1 .1 .1 .0) (sym (c .before .before .before .before .before .before .before .before .before .before .before .read-header .ensures) ∙ m .1) (k .0 .0) (sym (c .before .before .before .before .before .before .before .open-realm .ensures) ∙ k .1))
+    (opening-refused (a .file .now) (m .0 .0) (sym (c .before .before .before .before .before .before .before .before .before .before .before .read-header .ensures) ∙ m .1) (k .0 .0) (sym (c .before .before .before .before .before .before .before .open-realm .ensures) ∙ k .1))
     (c .before .before .write-file-line2 .ensures .0)
 
 returns-4 : tie.Need-returns-4
 returns-4 c =
     let a = c .before .before .before .before .before .before .before .before .before .before .before .before .before .before .before .args in
-    let m = c .before .before .before .before .before .before .before .before .before .n .given in
+    let m = c .before .before .before .before .before .before .before .before .before .header .given in
     let h = c .before .before .before .before .before .h .given in
-    is-listed (a .file .now) (a .out .now) (c .before .before .before .before .before .before .before .before .before .before .before .before .if1 .left) (walkLines (h .0 .0) (a .file .now))
-    (opened (a .file .now) (m .0 .0) (m .0 .1 .0) (m .0 .1 .1 .0) (m .0 .1 .1 .1 .0) (sym (c .before .before .before .before .before .before .before .before .before .before .before .read-header .ensures) ∙ m .1) (h .0 .0) (sym (c .before .before .before .before .before .before .before .open-realm .ensures) ∙ h .1))
+    is-listed (a .file .now) (a .out .now) (c .before .before .before .before .before .before .before .before .before .before .before .before .if1 .left) (walkLines (h .0 .0) (m .0 .0 .mark) (a .file .now))
+    (opened (a .file .now) (m .0 .0) (sym (c .before .before .before .before .before .before .before .before .before .before .before .read-header .ensures) ∙ m .1) (h .0 .0) (sym (c .before .before .before .before .before .before .before .open-realm .ensures) ∙ h .1))
     (c .before .before .walk-records .ensures)
 
 pub list-spec : {M : Type 1} → statement M

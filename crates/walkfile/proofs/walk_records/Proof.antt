@@ -21,21 +21,21 @@ use Rattle.walkfile.proofs.walk_records.Statement.{statement}
 use Rattle.walkfile.proofs.walk_records.Tie as tie
 
 abbrev Inv-loop : tie.InvT-loop
-Inv-loop file out₀ terms₀ runs₀ wire₀ cache₀ realm₀ at₀ number₀ end₀ out terms runs wire cache realm at number end =
-    (length out ≡ length out₀) × (length terms ≡ 512) × (length runs ≡ 448) × (length wire ≡ 8) × BeforeRecord file out₀ end₀ (recordLines realm₀ file) out (tables realm terms runs wire cache) at number end
+Inv-loop mark file out₀ terms₀ runs₀ wire₀ cache₀ realm₀ at₀ number₀ end₀ out terms runs wire cache realm at number end =
+    (length out ≡ length out₀) × (length terms ≡ 512) × (length runs ≡ 448) × (length wire ≡ 8) × BeforeRecord file out₀ end₀ (recordLines realm₀ mark file) out (tables realm terms runs wire cache) at number end
 
 abbrev μ-loop : tie.MeasureT-loop
-μ-loop file out₀ terms₀ runs₀ wire₀ cache₀ realm₀ at₀ number₀ end₀ out terms runs wire cache realm at number end = length file - at
+μ-loop mark file out₀ terms₀ runs₀ wire₀ cache₀ realm₀ at₀ number₀ end₀ out terms runs wire cache realm at number end = length file - at
 
 -- what the entry of the function knows
-bytes-file : (c : tie.At-loop Inv-loop μ-loop) → Bytes (c .before .before .before .before .before .before .before .args .file .now)
-bytes-file c = record { small = λ k. c .before .before .before .before .before .before .shared-slice-known .given k .fits }
+bytes-file : (c : tie.At-loop Inv-loop μ-loop) → Bytes (c .before .before .before .before .before .before .before .before .args .file .now)
+bytes-file c = record { small = λ k. c .before .before .before .before .before .before .before .shared-slice-known .given k .fits }
 
 -- the records are few, and what is written is short
 room : (c : tie.At-loop Inv-loop μ-loop) → (c .loop .number ≤ 9361) × (c .loop .end + 24 + 70 ≤ length (c .loop .out))
 room c =
     let s = c .loop .inv .4 in
-    let a = c .before .before .before .before .before .before .before in
+    let a = c .before .before .before .before .before .before .before .before in
     let n = few _ _ _ _ _ _ _ _ _ s (a .pre .0 .most) in
     (n, omega (arith, n, s .short, c .loop .inv .0, c .before .before .before .write-header-line .kept .0, a .pre .1))
 
@@ -43,13 +43,13 @@ loop-holds : tie.Need-loop-holds Inv-loop μ-loop
 unfolding newTables
 loop-holds c =
     let w = c .before .before .write-header-line in
-    let a = c .before .before .before .before .before .before in (
+    let a = c .before .before .before .before .before .before .before in (
       refl,
       refl,
       refl,
       refl,
-      starts (a .args .file .now) (w .last .0) (a .args .h) (w .result) (a .pre .0)
-          (omega (arith, w .ensures .offset, header-short)) (omega (arith, w .kept .0, a .pre .1)),
+      starts (a .args .file .now) (w .last .0) (a .args .h) (a .args .mark) (w .result) (c .before .before .before .before .header-width .ensures) (a .pre .0)
+          (omega (arith, w .ensures .offset, header-short (a .args .mark))) (omega (arith, w .kept .0, a .pre .1)),
     )
 
 call-requires : tie.Need-call-requires Inv-loop μ-loop
@@ -63,7 +63,7 @@ add-number c = omega (arith, room (c .before .before .before .before .before .be
 
 -- the record that was read
 was-read : (c : tie.After-next-cache Inv-loop μ-loop) → let m = c .before .before .before .before .before .before .before .before .before .before .before .before .before .before .next-call .given in
-    recordAt (c .before .before .before .before .before .before .before .before .before .before .before .before .before .before .before .before .before .before .before .before .before .before .before .before .args .file .now) (c .before .before .before .before .before .before .before .before .before .before .before .before .before .before .before .before .before .loop .at) ≡ records.Call (m .0 .0) (m .0 .1 .0)
+    recordAt (c .before .before .before .before .before .before .before .before .before .before .before .before .before .before .before .before .before .before .before .before .before .before .before .before .before .args .file .now) (c .before .before .before .before .before .before .before .before .before .before .before .before .before .before .before .before .before .loop .at) ≡ records.Call (m .0 .0) (m .0 .1 .0)
 was-read c = sym (c .before .before .before .before .before .before .before .before .before .before .before .before .before .before .before .before .read-record .ensures) ∙ c .before .before .before .before .before .before .before .before .before .before .before .before .before .before .next-call .given .1
 
 loop-less : tie.Need-loop-less Inv-loop μ-loop
@@ -77,7 +77,7 @@ loop-again c =
     let p = c .before .before .before .before .before .before .before .before .before .before .before .before .before .before .before .before .before in
     let l = p .loop in
     let h = p .before .before .before .write-header-line in
-    let a = p .before .before .before .before .before .before .before .args in
+    let a = p .before .before .before .before .before .before .before .before .args in
     let t = tables (l .realm) (l .terms) (l .runs) (l .wire) (l .cache) in
     let read = was-read c in
     let sized = step-on (a .file .now) (l .at) (m .0) (m .1 .0) read .sized (bytes-file p) in (
@@ -85,7 +85,7 @@ loop-again c =
       k .kept .1 .0 ∙ l .inv .1,
       k .kept .1 .1 .0 ∙ l .inv .2,
       k .kept .1 .1 .1 .0 ∙ l .inv .3,
-      goes-on (a .file .now) (h .last .0) (h .result) (recordLines (a .h) (a .file .now)) (l .out) t (l .at) (l .number) (l .end) (l .inv .4) (m .0) (m .1 .0)
+      goes-on (a .file .now) (h .last .0) (h .result) (recordLines (a .h) (a .mark) (a .file .now)) (l .out) t (l .at) (l .number) (l .end) (l .inv .4) (m .0) (m .1 .0)
           (outcome (k .result) (k .last .1 .0) (k .last .1 .1 .0) (k .last .1 .1 .1 .0)) (w .last .0) (w .result) read sized (k .ensures) (w .ensures .0) (w .ensures .1 (omega (arith, room p .0))),
     )
 
@@ -99,17 +99,17 @@ cast-write-end-line-2 : tie.Need-cast-write-end-line-2 Inv-loop μ-loop
 cast-write-end-line-2 c = omega (arith, c .before .before .before .before .before .before .before .loop .inv .4 .together .entries-most)
 
 -- before the last line, whichever way the reading ended
-ready : (c : tie.Joined1 Inv-loop μ-loop) → let l = c .before .before .before .loop in let w = c .before .before .before .before .before .before .write-header-line in let a = c .before .before .before .before .before .before .before .before .before .before .args in
-    BeforeLast (w .last .0) (w .result) (recordLines (a .h) (a .file .now)) (c .if1 .out) (tables (l .realm) (l .terms) (l .runs) (l .wire) (l .cache)) (c .if1 .end)
+ready : (c : tie.Joined1 Inv-loop μ-loop) → let l = c .before .before .before .loop in let w = c .before .before .before .before .before .before .write-header-line in let a = c .before .before .before .before .before .before .before .before .before .before .before .args in
+    BeforeLast (w .last .0) (w .result) (recordLines (a .h) (a .mark) (a .file .now)) (c .if1 .out) (tables (l .realm) (l .terms) (l .runs) (l .wire) (l .cache)) (c .if1 .end)
 ready c =
     let p = c .before .before .before in
     let l = p .loop in
     let r = c .before .before .read-record in
-    let most = p .before .before .before .before .before .before .before .pre .0 .most in
+    let most = p .before .before .before .before .before .before .before .before .pre .0 .most in
     ⊎-elim (λ w. ready-as (w .5) (w .6) (ends-broken _ _ _ _ _ _ _ _ _ (l .inv .4) most (w .0 .taken) (r .result) (r .ensures) (not-a-call (r .result) (c .before .match .keys2)) _ _ (w .2 .ensures .0) (w .2 .ensures .1 (omega (arith, room p .0)))))
     (λ w. ready-as (w .1) (w .2) (ends-whole _ _ _ _ _ _ _ _ _ (l .inv .4) most (w .0 .left))) (c .if1 .came)
 
-room-left : (c : tie.Joined1 Inv-loop μ-loop) → length (c .if1 .out) ≡ length (c .before .before .before .before .before .before .before .before .before .before .args .out .now)
+room-left : (c : tie.Joined1 Inv-loop μ-loop) → length (c .if1 .out) ≡ length (c .before .before .before .before .before .before .before .before .before .before .before .args .out .now)
 room-left c =
     let p = c .before .before .before in
     ⊎-elim (λ w. ap length (w .5) ∙ w .2 .kept .0) (λ w. ap length (w .1)) (c .if1 .came) ∙ p .loop .inv .0 ∙ p .before .before .before .write-header-line .kept .0
@@ -117,7 +117,7 @@ room-left c =
 write-end-line-requires : tie.Need-write-end-line-requires Inv-loop μ-loop
 write-end-line-requires c κs =
     let j = c .before .before .before .before in
-    omega (arith, ready j .short, room-left j, j .before .before .before .before .before .before .before .before .before .before .pre .1)
+    omega (arith, ready j .short, room-left j, j .before .before .before .before .before .before .before .before .before .before .before .pre .1)
 
 same-length : tie.Need-same-length Inv-loop μ-loop
 same-length c = c .before .before .write-end-line .kept .0 ∙ room-left (c .before .before .before .before .before .before .before)
@@ -128,9 +128,9 @@ returns c =
     let w = c .before .before .write-end-line in
     let j = c .before .before .before .before .before .before .before in
     let l = j .before .before .before .loop in
-    let a = j .before .before .before .before .before .before .before .before .before .before in
+    let a = j .before .before .before .before .before .before .before .before .before .before .before in
     let h = j .before .before .before .before .before .before .write-header-line in
-    finishes (a .args .out .now) (h .last .0) (j .if1 .out) (w .last .0) (a .args .file .now) (a .args .h) (h .result)
+    finishes (a .args .out .now) (h .last .0) (j .if1 .out) (w .last .0) (a .args .file .now) (a .args .h) (a .args .mark) (h .result)
     (tables (l .realm) (l .terms) (l .runs) (l .wire) (l .cache)) (j .if1 .end) (w .result) (h .ensures) (ready j)
     (wrote-as (ap (λ (k : ℕ). endLine (l .realm .runs) k (l .realm .entries) (l .realm .clock)) (c .before .before .before .before .members .ensures)) (w .ensures))
 
@@ -140,6 +140,7 @@ walk-records-spec =
     (tie.spec
     Inv-loop
     μ-loop
+    (λ c κs. search needs)
     (λ c κs. search needs)
     loop-holds
     (λ c κs. search needs)

@@ -13,13 +13,13 @@ use Rattle.rewriting.proofs.reading.read_words.Statement.{statement}
 use Rattle.rewriting.proofs.reading.read_words.Tie as tie
 
 abbrev Inv-loop : tie.InvT-loop
-Inv-loop file words₀ at₀ end₀ words at end = (length words ≡ length words₀) × ReadProgress file words₀ words at end
+Inv-loop file from words₀ at₀ end₀ words at end = (length words ≡ length words₀) × ReadProgress from file words₀ words at end
 
 abbrev μ-loop : tie.MeasureT-loop
-μ-loop file words₀ at₀ end₀ words at end = length file - at
+μ-loop file from words₀ at₀ end₀ words at end = length file - at
 
 loop-holds : tie.Need-loop-holds Inv-loop μ-loop
-loop-holds c = let a = c .before .before .args in (refl, starts (a .file .now) (a .words .now))
+loop-holds c = let a = c .before .before .args in (refl, starts (a .from) (a .file .now) (a .words .now))
 
 -- the record that was read
 was-read : (c : tie.After-known-told Inv-loop μ-loop)
@@ -31,7 +31,7 @@ fits : (c : tie.After-known-told Inv-loop μ-loop) → c .before .before .before
 fits c =
     let s = c .before .before .before .before .before .before .before in
     let l = c .before .before .before .before .loop in
-    omega (arith, l .inv .0, next-fits (s .args .file .now) (s .args .words .now) (l .words) (l .at) (l .end) (l .inv .1) (was-read c) (s .pre))
+    omega (arith, l .inv .0, next-fits (s .args .from) (s .args .file .now) (s .args .words .now) (l .words) (l .at) (l .end) (l .inv .1) (was-read c) (s .pre))
 
 put-call-requires : tie.Need-put-call-requires Inv-loop μ-loop
 put-call-requires c κs = part-room (c .before .before .before .before .before .loop .words) (c .before .before .before .before .before .loop .end) 7 (fits (c .before))
@@ -51,7 +51,7 @@ loop-again c =
     let s = c .before .before .before .before .before .before .before .before .before .before .before in
     let l = c .before .before .before .before .before .before .before .before .loop in (
       search needs,
-      goes-on (s .args .file .now) (s .args .words .now) (l .words) (l .at) (l .end) (l .inv .1) (was-read (c .before .before .before .before)) (c .before .before .put-call .ensures),
+      goes-on (s .args .from) (s .args .file .now) (s .args .words .now) (l .words) (l .at) (l .end) (l .inv .1) (was-read (c .before .before .before .before)) (c .before .before .put-call .ensures),
     )
 
 returns : tie.Need-returns Inv-loop μ-loop
@@ -59,14 +59,14 @@ returns c =
     let s = c .before .before .before .before .before .before in
     let l = c .before .before .before .loop in
     let e = ends (s .args .file .now) (l .at) .0 (sym (c .before .before .read-record .ensures) ∙ c .enum-told .given .1) in
-    finishes (s .args .file .now) (s .args .words .now) (l .words) (l .at) (l .end) (l .inv .1) (none-left (s .args .file .now) (l .at) e)
+    finishes (s .args .from) (s .args .file .now) (s .args .words .now) (l .words) (l .at) (l .end) (l .inv .1) (none-left (s .args .file .now) (l .at) e)
 
 returns-2 : tie.Need-returns-2 Inv-loop μ-loop
 returns-2 c =
     let s = c .before .before .before .before .before .before in
     let l = c .before .before .before .loop in
     let e = breaks (s .args .file .now) (l .at) _ (sym (c .before .before .read-record .ensures) ∙ c .enum-told2 .given .1) in
-    finishes (s .args .file .now) (s .args .words .now) (l .words) (l .at) (l .end) (l .inv .1) (e .last)
+    finishes (s .args .from) (s .args .file .now) (s .args .words .now) (l .words) (l .at) (l .end) (l .inv .1) (e .last)
 
 pub read-words-spec : {M : Type 1} → statement M
 read-words-spec =

@@ -1,6 +1,7 @@
 -- `writer::walk/write_file` meets its contract. Assumes nothing.
 use native.Mathlib.Omega.{arith}
 use borrow.Author.Needs.{needs}
+use Rattle.records.specs.Headers.{headerWidth}
 use Rattle.raw_records.specs.Raw.{recordsOf}
 use Rattle.fields.specs.Placed.{joined}
 use Rattle.fields.specs.Parts.{part-room, part-wrote}
@@ -14,16 +15,16 @@ write-header-requires : tie.Need-write-header-requires
 write-header-requires c κs =
     let s = c .before .before .before in
     let a = s .args in
-    part-room (a .out .now) (a .at) 13 (omega (arith, s .pre, file-length (a .n) (a .flags) (a .ls) (a .la) (recordsOf (a .words .now))))
+    part-room (a .out .now) (a .at) (headerWidth (a .header .mark)) (omega (arith, s .pre, file-length (a .header) (recordsOf (a .words .now))))
 
 add-write-records : tie.Need-add-write-records
 add-write-records c =
     let s = c .before .before .before .before .before .before .before in
     let a = s .args in
     let h = s .pre in
-    let l = file-length (a .n) (a .flags) (a .ls) (a .la) (recordsOf (a .words .now)) in
+    let l = file-length (a .header) (recordsOf (a .words .now)) in
     let e = c .before .before .before .write-header .ensures .offset in
-    let k = header-long (a .n) (a .flags) (a .ls) (a .la) in
+    let k = header-long (a .header) in
     search needs
 
 write-records-requires : tie.Need-write-records-requires
@@ -33,8 +34,8 @@ write-records-requires c κs =
     omega (
       arith,
       s .pre,
-      file-length (a .n) (a .flags) (a .ls) (a .la) (recordsOf (a .words .now)),
-      header-long (a .n) (a .flags) (a .ls) (a .la),
+      file-length (a .header) (recordsOf (a .words .now)),
+      header-long (a .header),
       c .before .before .before .write-header .ensures .offset,
     )
 
@@ -43,7 +44,7 @@ unfolding fileOf
 returns c =
     let s = c .before .before .before .before .before .before .before .before .before .before in
     let a = s .args in
-    joined (omega (arith, s .pre)) (part-wrote (a .out .now) (a .at) (headerInBytes (a .n) (a .flags) (a .ls) (a .la)) (c .before .before .before .before .before .before .write-header .ensures)) (c .before .before .write-records .ensures)
+    joined (omega (arith, s .pre)) (part-wrote (a .out .now) (a .at) (headerInBytes (a .header)) (c .before .before .before .before .before .before .write-header .ensures)) (c .before .before .write-records .ensures)
 
 pub write-file-spec : {M : Type 1} → statement M
 write-file-spec =
