@@ -4,7 +4,7 @@
 //! The fields come as 32 bits each, so that a number wider than its field in
 //! the file can be turned away too.
 
-use crate::file::{Header, StepRecord, TermRecord};
+use crate::file::{StepRecord, TermRecord};
 use crate::refusal::Refusal;
 use crate::terms::MAX_NONCE_OR_KEY;
 
@@ -54,7 +54,8 @@ pub struct StepFields {
 }
 
 impl TermFields {
-    pub fn check(&self, header: &Header) -> Result<(), Refusal> {
+    /// In a realm of so many principals, here and below.
+    pub fn check(&self, principals: u8) -> Result<(), Refusal> {
         if self.kind > MAX_KIND {
             return Err(Refusal::UnknownOperation);
         }
@@ -63,7 +64,7 @@ impl TermFields {
             return Err(Refusal::UnusedField);
         }
         match self.kind {
-            0 | 3 => drop(principal(header, self.left)?),
+            0 | 3 => drop(below(principals, self.left)?),
             2 | 4 => drop(nonce_or_key(self.left)?),
             _ => {}
         }
@@ -76,7 +77,7 @@ impl TermFields {
 
 impl StepFields {
     /// Gives which fields the step uses.
-    pub fn check(&self, header: &Header) -> Result<Uses, Refusal> {
+    pub fn check(&self, principals: u8) -> Result<Uses, Refusal> {
         let uses = uses(self.step).ok_or(Refusal::UnknownOperation)?;
         let unused_field_set = !uses.run && self.run != 0
             || !uses.a && self.a != 0
@@ -87,8 +88,8 @@ impl StepFields {
             return Err(Refusal::UnusedField);
         }
         // A field that is not used is 0 here, which is in every range.
-        principal(header, self.a)?;
-        principal(header, self.b)?;
+        below(principals, self.a)?;
+        below(principals, self.b)?;
         let too_wide = self.run > u32::from(u8::MAX) || self.message > u32::from(u16::MAX);
         let opens_for_two = matches!(self.step, 1 | 2);
         let barred = self.a == 0 || self.b == 0 || self.a == self.b;
@@ -99,16 +100,12 @@ impl StepFields {
     }
 }
 
-/// A party's number.
-pub fn principal(header: &Header, number: u32) -> Result<u8, Refusal> {
-    below(header.principals, number)
-}
-
 pub fn nonce_or_key(number: u32) -> Result<u8, Refusal> {
     below(MAX_NONCE_OR_KEY + 1, number)
 }
 
-fn below(limit: u8, number: u32) -> Result<u8, Refusal> {
+/// A number below the limit.
+pub fn below(limit: u8, number: u32) -> Result<u8, Refusal> {
     if number < u32::from(limit) {
         Ok(number as u8)
     } else {

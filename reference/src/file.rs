@@ -1,23 +1,31 @@
 //! From bytes to a header and records: the layout of a walk file and the
 //! refusals 1, 2 and 3. Numbers are high byte first.
 
+use crate::marks::{format_at, format_of, MIN_PRINCIPALS};
 use crate::refusal::Refusal;
 
 pub const MAX_FILE_BYTES: usize = 65_536;
-pub const MIN_PRINCIPALS: u8 = 3;
-pub const MAX_PRINCIPALS: u8 = 16;
 
-pub const HEADER_BYTES: usize = 13;
 pub const TERM_BYTES: usize = 7;
 pub const STEP_BYTES: usize = 12;
 
-/// The record HD: what holds for the whole walk.
+/// The first record of a file: its mark, and what holds for the whole walk.
 #[derive(Clone, Copy, Debug, PartialEq, Eq)]
 pub struct Header {
+    pub mark: u16,
+    pub principals: u8,
+    pub flags: u32,
+    pub ticket_life: u32,
+    pub authenticator_life: u32,
+}
+
+/// What a realm keeps of its header.
+#[derive(Clone, Copy, Debug, PartialEq, Eq)]
+pub struct Settings {
     /// n, the number of principals (the paper's parties).
     pub principals: u8,
     /// Bit p set marks principal p bad.
-    pub flags: u16,
+    pub flags: u32,
     /// Ls.
     pub ticket_life: u32,
     /// La.
@@ -25,21 +33,36 @@ pub struct Header {
 }
 
 impl Header {
+    pub fn settings(&self) -> Settings {
+        let Header { principals, flags, ticket_life, authenticator_life, .. } = *self;
+        Settings { principals, flags, ticket_life, authenticator_life }
+    }
+
+    /// Refusal 1 for another mark, then 2 by the mark's limit.
+    pub fn check(self) -> Result<Header, Refusal> {
+        let format = format_of(self.mark).ok_or(Refusal::NoHeader)?;
+        if !self.settings().fit(format.most_principals) {
+            return Err(Refusal::BadHeader);
+        }
+        Ok(self)
+    }
+}
+
+impl Settings {
     pub fn is_bad(&self, principal: u8) -> bool {
         self.flags >> principal & 1 == 1
     }
 
-    /// Refusal 2, condition by condition.
-    pub fn check(self) -> Result<Header, Refusal> {
+    /// Can a realm of at most so many principals have them? Condition by
+    /// condition as refusal 2 has them.
+    pub fn fit(&self, most_principals: u8) -> bool {
         let n = self.principals;
-        let n_in_range = (MIN_PRINCIPALS..=MAX_PRINCIPALS).contains(&n);
+        let n_in_range = (MIN_PRINCIPALS..=most_principals).contains(&n);
         let flag_on_server = self.flags & 1 == 1;
-        let flag_above = n_in_range && u32::from(self.flags) >> n != 0;
+        // In 64 bits, since n can be 32.
+        let flag_above = n_in_range && u64::from(self.flags) >> n != 0;
         let life_of_0 = self.ticket_life == 0 || self.authenticator_life == 0;
-        if !n_in_range || flag_on_server || flag_above || life_of_0 {
-            return Err(Refusal::BadHeader);
-        }
-        Ok(self)
+        n_in_range && !flag_on_server && !flag_above && !life_of_0
     }
 }
 
@@ -80,17 +103,26 @@ impl Record {
 
 /// The header of a file and the bytes after it; refusals 1 and 2.
 pub fn read_header(file: &[u8]) -> Result<(Header, &[u8]), Refusal> {
-    if file.len() > MAX_FILE_BYTES || file.len() < HEADER_BYTES || !file.starts_with(b"HD") {
+    let (header, rest) = header_values(file)?;
+    Ok((header.check()?, rest))
+}
+
+/// The same, with values that are not yet looked at; refusal 1.
+pub fn header_values(file: &[u8]) -> Result<(Header, &[u8]), Refusal> {
+    let format = format_at(file).ok_or(Refusal::NoHeader)?;
+    if file.len() > MAX_FILE_BYTES || file.len() < format.header_bytes() {
         return Err(Refusal::NoHeader);
     }
-    let (bytes, rest) = file.split_at(HEADER_BYTES);
+    let (bytes, rest) = file.split_at(format.header_bytes());
+    let (flags, lives) = bytes[3..].split_at(format.flag_bytes);
     let header = Header {
+        mark: format.mark,
         principals: bytes[2],
-        flags: number(&bytes[3..5]) as u16,
-        ticket_life: number(&bytes[5..9]),
-        authenticator_life: number(&bytes[9..13]),
+        flags: number(flags),
+        ticket_life: number(&lives[..4]),
+        authenticator_life: number(&lives[4..]),
     };
-    Ok((header.check()?, rest))
+    Ok((header, rest))
 }
 
 /// The next record and the bytes after it; refusal 3. `None` at the end.

@@ -8,17 +8,17 @@
 
 use std::collections::HashSet;
 
-use crate::file::Header;
+use crate::file::Settings;
 use crate::terms::{Message, Shape, Terms};
 
 /// Nonces and session keys from here on, up to 95, are the intruder's own.
 pub const FIRST_OF_INTRUDER: u8 = 64;
 
 /// The terms present that the intruder can derive.
-pub fn derivable(header: &Header, terms: &Terms, wire: &HashSet<Message>) -> HashSet<Message> {
+pub fn derivable(settings: &Settings, terms: &Terms, wire: &HashSet<Message>) -> HashSet<Message> {
     let mut known = wire.clone();
     for message in terms.present() {
-        if known_from_the_start(header, message) {
+        if known_from_the_start(settings, message) {
             known.insert(message.clone());
         }
     }
@@ -35,10 +35,10 @@ pub fn derivable(header: &Header, terms: &Terms, wire: &HashSet<Message>) -> Has
 
 /// "all parties and times, the bad parties' long-term keys, nonces and session
 /// keys 64 to 95"
-fn known_from_the_start(header: &Header, message: &Message) -> bool {
+fn known_from_the_start(settings: &Settings, message: &Message) -> bool {
     match *message.shape() {
         Shape::Principal(_) | Shape::Time(_) => true,
-        Shape::LongTermKey(principal) => header.is_bad(principal),
+        Shape::LongTermKey(principal) => settings.is_bad(principal),
         Shape::Nonce(i) | Shape::SessionKey(i) => i >= FIRST_OF_INTRUDER,
         Shape::Pair(..) | Shape::Encrypted(..) => false,
     }

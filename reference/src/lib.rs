@@ -6,6 +6,7 @@ pub mod fields;
 pub mod file;
 pub mod intruder;
 pub mod listing;
+pub mod marks;
 pub mod realm;
 pub mod refusal;
 pub mod steps;

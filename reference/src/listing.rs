@@ -4,6 +4,7 @@
 use std::fmt::Write;
 
 use crate::file::{read_header, read_record};
+use crate::marks::letters;
 use crate::realm::{Answer, Realm};
 use crate::refusal::Refusal;
 
@@ -13,8 +14,8 @@ pub fn listing(file: &[u8]) -> String {
         Ok(read) => read,
         Err(refusal) => return refused(0, "file", refusal),
     };
-    let mut realm = Realm::new(header);
-    let mut lines = String::from("0 HD ok\n");
+    let mut realm = Realm::new(header.settings());
+    let mut lines = format!("0 {} ok\n", letters(header.mark));
     let mut number = 0;
     while let Some(read) = read_record(rest) {
         number += 1;

@@ -3,8 +3,8 @@
 
 use std::collections::HashSet;
 
-use crate::fields::{nonce_or_key, principal, StepFields, TermFields};
-use crate::file::{Header, Record, StepRecord, TermRecord};
+use crate::fields::{below, nonce_or_key, StepFields, TermFields};
+use crate::file::{Record, Settings, StepRecord, TermRecord};
 use crate::intruder;
 use crate::refusal::Refusal;
 use crate::terms::{Message, Shape, Terms};
@@ -53,7 +53,7 @@ pub struct Entry {
 }
 
 pub struct Realm {
-    pub header: Header,
+    pub settings: Settings,
     pub clock: u32,
     pub terms: Terms,
     pub wire: HashSet<Message>,
@@ -71,9 +71,9 @@ pub enum Answer {
 
 impl Realm {
     /// "A new hall has clock 0 and empty tables."
-    pub fn new(header: Header) -> Realm {
+    pub fn new(settings: Settings) -> Realm {
         Realm {
-            header,
+            settings,
             clock: 0,
             terms: Terms::default(),
             wire: HashSet::new(),
@@ -95,7 +95,7 @@ impl Realm {
 
     /// What the intruder can derive among the terms present.
     pub fn derivable(&self) -> HashSet<Message> {
-        intruder::derivable(&self.header, &self.terms, &self.wire)
+        intruder::derivable(&self.settings, &self.terms, &self.wire)
     }
 
     fn add_term(&mut self, record: &TermRecord) -> Result<Answer, Refusal> {
@@ -113,7 +113,7 @@ impl Realm {
 
     /// The message that a TM record names; refusals 4, 5 and 6.
     fn term_of(&mut self, record: &TermRecord) -> Result<Message, Refusal> {
-        TermFields::from(record).check(&self.header)?;
+        TermFields::from(record).check(self.settings.principals)?;
         let TermRecord { kind, left, right } = *record;
         let shape = match kind {
             0 => Shape::Principal(self.principal(left)?),
@@ -128,7 +128,7 @@ impl Realm {
     }
 
     pub fn principal(&self, number: u16) -> Result<u8, Refusal> {
-        principal(&self.header, number.into())
+        below(self.settings.principals, number.into())
     }
 
     pub fn term(&self, number: u16) -> Result<Message, Refusal> {
@@ -145,7 +145,7 @@ impl Realm {
 
     /// Refusals 4, 5 and 6 of an ST record.
     fn check_step(&self, record: &StepRecord) -> Result<(), Refusal> {
-        let uses = StepFields::from(record).check(&self.header)?;
+        let uses = StepFields::from(record).check(self.settings.principals)?;
         let not_present = uses.run && usize::from(record.run) >= self.runs.len()
             || uses.message && usize::from(record.message) >= self.terms.count();
         if not_present {

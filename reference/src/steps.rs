@@ -93,7 +93,7 @@ impl Realm {
         let (ticket, ta) = read_delivery(message, a, b).ok_or(Refusal::WrongForm)?;
         self.check_derivable(message)?;
         self.check_ticket_alive(ticket.time)?;
-        if self.is_over(ta, self.header.authenticator_life) {
+        if self.is_over(ta, self.settings.authenticator_life) {
             return Err(Refusal::AuthenticatorExpired);
         }
         let session_key = ticket.session_key;
@@ -137,7 +137,7 @@ impl Realm {
     fn forget(&mut self, b: u8) -> Result<Answer, Refusal> {
         let mut kept = Vec::new();
         for entry in &self.cache {
-            let over = self.is_over(entry.authenticator_time, self.header.authenticator_life);
+            let over = self.is_over(entry.authenticator_time, self.settings.authenticator_life);
             if entry.responder != b || !over {
                 kept.push(*entry);
             }
@@ -181,7 +181,7 @@ impl Realm {
     }
 
     fn check_ticket_alive(&self, ticket_time: u32) -> Result<(), Refusal> {
-        if self.is_over(ticket_time, self.header.ticket_life) {
+        if self.is_over(ticket_time, self.settings.ticket_life) {
             return Err(Refusal::TicketExpired);
         }
         Ok(())

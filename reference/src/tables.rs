@@ -5,7 +5,8 @@
 //! A term is kind × 2^32 + L × 65,536 + R. A run is seven words: role, stage,
 //! a, b, K, Ts, Ta. Mark i of the wire is bit i % 64 of word i / 64.
 
-use crate::file::{Header, Record, TermRecord};
+use crate::file::{Record, Settings, TermRecord};
+use crate::marks::MAX_PRINCIPALS;
 use crate::realm::{Answer, Entry, Held, Realm, Role, Run, Stage, MAX_ENTRIES, MAX_RUNS};
 use crate::refusal::Refusal;
 use crate::terms::{Message, Shape, Terms, MAX_NONCE_OR_KEY, MAX_TERMS};
@@ -68,7 +69,7 @@ pub struct Counts {
 
 #[derive(Clone, Debug, PartialEq, Eq)]
 pub struct Tables {
-    pub header: Header,
+    pub settings: Settings,
     pub clock: u32,
     pub counts: Counts,
     pub terms: Vec<u64>,
@@ -108,9 +109,9 @@ impl Tables {
 
     /// The realm that the tables tell of, or refusal 10.
     pub fn realm(&self) -> Result<Realm, Refusal> {
-        let header = self.header.check().map_err(|_| Refusal::BrokenTables)?;
         holds(
-            self.terms.len() == TERM_PLACES
+            self.settings.fit(MAX_PRINCIPALS)
+                && self.terms.len() == TERM_PLACES
                 && self.runs.len() == RUN_WORDS
                 && self.wire.len() == WIRE_WORDS
                 && self.cache.len() == MAX_ENTRIES
@@ -118,7 +119,7 @@ impl Tables {
                 && self.counts.runs <= MAX_RUNS
                 && self.counts.entries <= MAX_ENTRIES,
         )?;
-        let mut realm = Realm::new(header);
+        let mut realm = Realm::new(self.settings);
         realm.clock = self.clock;
         self.read_terms(&mut realm)?;
         self.read_runs(&mut realm)?;
@@ -140,7 +141,7 @@ impl Tables {
 
     fn read_runs(&self, realm: &mut Realm) -> Result<(), Refusal> {
         for (number, row) in self.runs.chunks(ROW).take(self.counts.runs).enumerate() {
-            let run = read_run(row, realm.header.principals)?;
+            let run = read_run(row, realm.settings.principals)?;
             if run.role == Role::Server {
                 let key = realm.terms.make(Shape::SessionKey(number as u8));
                 holds(row[4] as usize == number && realm.terms.number(&key).is_some())?;
@@ -162,7 +163,7 @@ impl Tables {
 
     fn read_cache(&self, realm: &mut Realm) -> Result<(), Refusal> {
         for place in &self.cache[..self.counts.entries] {
-            holds(place.b < u16::from(realm.header.principals))?;
+            holds(place.b < u16::from(realm.settings.principals))?;
             holds(place.k <= u16::from(MAX_NONCE_OR_KEY))?;
             realm.cache.push(Entry {
                 responder: place.b as u8,

@@ -7,7 +7,8 @@
 
 use crate::fields::{StepFields, TermFields};
 use crate::file::{read_header, read_records, Header, Record, StepRecord, TermRecord};
-use crate::file::{HEADER_BYTES, MAX_FILE_BYTES, STEP_BYTES, TERM_BYTES};
+use crate::file::{MAX_FILE_BYTES, STEP_BYTES, TERM_BYTES};
+use crate::marks::{format_of, Format};
 use crate::refusal::Refusal;
 
 /// The words of a record.
@@ -33,38 +34,39 @@ pub fn write(
 
 /// The bytes of the file; refusals 1 and 2, then 3 to 6 record by record.
 pub fn file(header: &Header, words: &[u32]) -> Result<Vec<u8>, Refusal> {
-    if file_bytes(words) > MAX_FILE_BYTES {
+    if file_bytes(header, words) > MAX_FILE_BYTES {
         return Err(Refusal::NoHeader);
     }
     let mut file = header_bytes(&header.check()?);
     for words in words.chunks(RECORD_WORDS) {
-        put(&mut file, &record(header, words)?);
+        put(&mut file, &record(header.principals, words)?);
     }
     Ok(file)
 }
 
-/// How long the file would be. A record with an unknown mark has no length, nor
-/// has a last one that is cut short.
-pub fn file_bytes(words: &[u32]) -> usize {
+/// How long the file would be. A header or a record with an unknown mark has no
+/// length, nor has a last record that is cut short.
+pub fn file_bytes(header: &Header, words: &[u32]) -> usize {
     let bytes = |words: &[u32]| match words[0] {
         TERM_MARK => TERM_BYTES,
         STEP_MARK => STEP_BYTES,
         _ => 0,
     };
-    HEADER_BYTES + words.chunks_exact(RECORD_WORDS).map(bytes).sum::<usize>()
+    let header_bytes = format_of(header.mark).map_or(0, Format::header_bytes);
+    header_bytes + words.chunks_exact(RECORD_WORDS).map(bytes).sum::<usize>()
 }
 
 /// The record that the words tell of; refusals 3 to 6.
-fn record(header: &Header, words: &[u32]) -> Result<Record, Refusal> {
+fn record(principals: u8, words: &[u32]) -> Result<Record, Refusal> {
     match *words {
         [TERM_MARK, kind, left, right, _, _, _] => {
             let fields = TermFields { kind, left, right };
-            fields.check(header)?;
+            fields.check(principals)?;
             Ok(Record::Term(term(&fields)))
         }
         [STEP_MARK, step, run, a, b, message, time] => {
             let fields = StepFields { step, run, a, b, message, time };
-            fields.check(header)?;
+            fields.check(principals)?;
             Ok(Record::Step(self::step(&fields)))
         }
         _ => Err(Refusal::BrokenRecord),
@@ -88,10 +90,13 @@ fn step(fields: &StepFields) -> StepRecord {
     }
 }
 
+/// The bytes of a header: none of one with an unknown mark. Flags that its format
+/// has no room for are left out.
 pub fn header_bytes(header: &Header) -> Vec<u8> {
-    let mut bytes = b"HD".to_vec();
+    let Some(format) = format_of(header.mark) else { return Vec::new() };
+    let mut bytes = header.mark.to_be_bytes().to_vec();
     bytes.push(header.principals);
-    bytes.extend(header.flags.to_be_bytes());
+    bytes.extend(&header.flags.to_be_bytes()[4 - format.flag_bytes..]);
     bytes.extend(header.ticket_life.to_be_bytes());
     bytes.extend(header.authenticator_life.to_be_bytes());
     bytes

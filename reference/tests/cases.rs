@@ -5,7 +5,7 @@ mod common;
 use std::collections::HashSet;
 
 use common::{check, check_each, walk, EXCHANGE};
-use reference::file::Header;
+use reference::file::Settings;
 use reference::intruder::derivable;
 use reference::terms::{Message, Shape, Terms};
 
@@ -175,8 +175,9 @@ impl Tables {
     fn derives(&mut self, shape: Shape) -> bool {
         let message = self.terms.make(shape);
         assert!(self.terms.number(&message).is_some());
-        let header = Header { principals: 3, flags: 0b010, ticket_life: 1, authenticator_life: 1 };
-        derivable(&header, &self.terms, &self.wire).contains(&message)
+        let settings =
+            Settings { principals: 3, flags: 0b010, ticket_life: 1, authenticator_life: 1 };
+        derivable(&settings, &self.terms, &self.wire).contains(&message)
     }
 }
 

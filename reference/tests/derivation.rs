@@ -3,7 +3,7 @@
 
 use std::collections::{HashMap, HashSet};
 
-use reference::file::Header;
+use reference::file::Settings;
 use reference::intruder::derivable;
 use reference::terms::{Message, Shape, Terms};
 
@@ -18,17 +18,17 @@ impl Numbers {
     }
 }
 
-fn own(header: &Header, message: &Message) -> bool {
+fn own(settings: &Settings, message: &Message) -> bool {
     match *message.shape() {
         Shape::Principal(_) | Shape::Time(_) => true,
-        Shape::LongTermKey(p) => header.flags & 1 << p != 0,
+        Shape::LongTermKey(p) => settings.flags & 1 << p != 0,
         Shape::Nonce(i) | Shape::SessionKey(i) => (64..=95).contains(&i),
         _ => false,
     }
 }
 
 /// Takes messages apart until nothing comes out; locks wait for their keys.
-fn taken_apart(header: &Header, wire: &HashSet<Message>) -> HashSet<Message> {
+fn taken_apart(settings: &Settings, wire: &HashSet<Message>) -> HashSet<Message> {
     let mut known = HashSet::new();
     let mut waiting: HashMap<Message, Vec<Message>> = HashMap::new();
     let mut todo: Vec<Message> = wire.iter().cloned().collect();
@@ -41,7 +41,7 @@ fn taken_apart(header: &Header, wire: &HashSet<Message>) -> HashSet<Message> {
             todo.extend([left.clone(), right.clone()]);
         }
         if let Some((body, key)) = message.encrypted() {
-            if known.contains(key) || own(header, key) {
+            if known.contains(key) || own(settings, key) {
                 todo.push(body.clone());
             } else {
                 waiting.entry(key.clone()).or_default().push(body.clone());
@@ -52,7 +52,7 @@ fn taken_apart(header: &Header, wire: &HashSet<Message>) -> HashSet<Message> {
 }
 
 fn put_together(
-    header: &Header,
+    settings: &Settings,
     known: &HashSet<Message>,
     goal: &Message,
     done: &mut HashMap<Message, bool>,
@@ -62,17 +62,18 @@ fn put_together(
     }
     let parts = goal.pair().or(goal.encrypted());
     let answer = known.contains(goal)
-        || own(header, goal)
+        || own(settings, goal)
         || parts.is_some_and(|(first, second)| {
-            put_together(header, known, first, done) && put_together(header, known, second, done)
+            put_together(settings, known, first, done)
+                && put_together(settings, known, second, done)
         });
     done.insert(goal.clone(), answer);
     answer
 }
 
-fn random_tables(numbers: &mut Numbers) -> (Header, Terms, HashSet<Message>) {
-    let flags = (numbers.below(8) * numbers.below(2) * 2) as u16;
-    let header = Header { principals: 4, flags, ticket_life: 1, authenticator_life: 1 };
+fn random_tables(numbers: &mut Numbers) -> (Settings, Terms, HashSet<Message>) {
+    let flags = (numbers.below(8) * numbers.below(2) * 2) as u32;
+    let settings = Settings { principals: 4, flags, ticket_life: 1, authenticator_life: 1 };
     let mut terms = Terms::default();
     for _ in 0..4 + numbers.below(80) {
         let count = terms.count();
@@ -107,7 +108,7 @@ fn random_tables(numbers: &mut Numbers) -> (Header, Terms, HashSet<Message>) {
         .filter(|_| numbers.below(share) == 0)
         .cloned()
         .collect();
-    (header, terms, wire)
+    (settings, terms, wire)
 }
 
 #[test]
@@ -115,12 +116,12 @@ fn both_ways_agree_on_random_tables() {
     let mut numbers = Numbers(88172645463325252);
     let (mut yes, mut no, mut opened) = (0, 0, 0);
     for _ in 0..3_000 {
-        let (header, terms, wire) = random_tables(&mut numbers);
-        let found = derivable(&header, &terms, &wire);
-        let known = taken_apart(&header, &wire);
+        let (settings, terms, wire) = random_tables(&mut numbers);
+        let found = derivable(&settings, &terms, &wire);
+        let known = taken_apart(&settings, &wire);
         let mut done = HashMap::new();
         for message in terms.present() {
-            let expected = put_together(&header, &known, message, &mut done);
+            let expected = put_together(&settings, &known, message, &mut done);
             assert_eq!(found.contains(message), expected);
             *if expected { &mut yes } else { &mut no } += 1;
             opened += usize::from(known.contains(message) && !wire.contains(message));
@@ -135,12 +136,12 @@ fn both_ways_agree_on_random_tables() {
 fn more_on_the_wire_gives_no_less() {
     let mut numbers = Numbers(362436069);
     for _ in 0..300 {
-        let (header, terms, wire) = random_tables(&mut numbers);
-        let found = derivable(&header, &terms, &wire);
+        let (settings, terms, wire) = random_tables(&mut numbers);
+        let found = derivable(&settings, &terms, &wire);
         let mut more = wire.clone();
         more.insert(terms.present()[numbers.below(terms.count())].clone());
-        assert!(found.is_subset(&derivable(&header, &terms, &more)));
+        assert!(found.is_subset(&derivable(&settings, &terms, &more)));
         // What is derived adds nothing when it is sent.
-        assert!(derivable(&header, &terms, &found) == found);
+        assert!(derivable(&settings, &terms, &found) == found);
     }
 }

@@ -35,12 +35,14 @@ fn a_header_cut_short_with_bad_values_gives_1() {
 
 #[test]
 fn another_first_mark_is_refused() {
-    for mark in ["HW", "H5", "H4", "HN", "HO", "RG", "TM", "ST", "hd", "DH", "\0\0"] {
-        let mut file = record(HEADER);
-        file[..2].copy_from_slice(mark.as_bytes());
-        refused(&file, 1);
-        file.extend([0; 40]);
-        refused(&file, 1);
+    for mark in ["H5", "H4", "HN", "HO", "RG", "TM", "ST", "hd", "hw", "DH", "WH", "\0\0"] {
+        for header in [HEADER, "HW n=32 Ls=1 La=1", "HD n=2"] {
+            let mut file = record(header);
+            file[..2].copy_from_slice(mark.as_bytes());
+            refused(&file, 1);
+            file.extend([0; 40]);
+            refused(&file, 1);
+        }
     }
 }
 

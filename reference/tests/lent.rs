@@ -3,7 +3,7 @@
 use std::fs;
 use std::path::PathBuf;
 
-use reference::file::{read_header, read_record, Header, Record, StepRecord};
+use reference::file::{read_header, read_record, Record, Settings, StepRecord};
 use reference::realm::{Answer, Realm, MAX_ENTRIES};
 use reference::refusal::Refusal;
 use reference::tables::{
@@ -11,9 +11,9 @@ use reference::tables::{
 };
 
 /// Tables of a new realm, with what is no term, run or entry in their places.
-fn tables(header: Header) -> Tables {
+fn tables(settings: Settings) -> Tables {
     Tables {
-        header,
+        settings,
         clock: 0,
         counts: Counts::default(),
         terms: vec![u64::MAX; TERM_PLACES],
@@ -27,8 +27,8 @@ fn examples() -> PathBuf {
     PathBuf::from(env!("CARGO_MANIFEST_DIR")).join("../examples")
 }
 
-/// A walk's header and records.
-fn walk(path: PathBuf) -> (Header, Vec<Record>) {
+/// What a walk's header says, and its records.
+fn walk(path: PathBuf) -> (Settings, Vec<Record>) {
     let file = fs::read(path).unwrap();
     let (header, mut rest) = read_header(&file).unwrap();
     let mut records = Vec::new();
@@ -36,7 +36,7 @@ fn walk(path: PathBuf) -> (Header, Vec<Record>) {
         records.push(record);
         rest = after;
     }
-    (header, records)
+    (header.settings(), records)
 }
 
 fn tick(t: u32) -> Record {
@@ -45,8 +45,8 @@ fn tick(t: u32) -> Record {
 
 /// Case F's tables.
 fn exchanged() -> Tables {
-    let (header, records) = walk(examples().join("case-f.walk"));
-    let mut tables = tables(header);
+    let (settings, records) = walk(examples().join("case-f.walk"));
+    let mut tables = tables(settings);
     for record in records {
         let _ = tables.call(&record);
     }
@@ -58,8 +58,8 @@ fn exchanged() -> Tables {
 fn a_walk_over_tables_is_the_realms() {
     let paths = fs::read_dir(examples()).unwrap().map(|entry| entry.unwrap().path());
     for path in paths.filter(|path| path.extension().is_some_and(|name| name == "walk")) {
-        let (header, records) = walk(path);
-        let (mut realm, mut tables) = (Realm::new(header), tables(header));
+        let (settings, records) = walk(path);
+        let (mut realm, mut tables) = (Realm::new(settings), tables(settings));
         for record in records {
             let before = tables.clone();
             let answer = tables.call(&record);
@@ -98,8 +98,8 @@ fn forgotten_entries_leave_zeros() {
 
 #[test]
 fn the_steps_do_what_the_two_calls_do() {
-    let (header, records) = walk(examples().join("case-f.walk"));
-    let mut tables = tables(header);
+    let (settings, records) = walk(examples().join("case-f.walk"));
+    let mut tables = tables(settings);
     for record in records {
         let before = tables.clone();
         let answer = tables.call(&record);
@@ -124,7 +124,7 @@ fn the_steps_do_what_the_two_calls_do() {
 #[test]
 fn each_thing_spoilt_alone_gives_10() {
     let spoil: [fn(&mut Tables); 14] = [
-        |t| t.header.flags = 1,
+        |t| t.settings.flags = 1,
         |t| t.terms.push(0),
         |t| t.runs.truncate(447),
         |t| t.wire.clear(),

@@ -8,11 +8,17 @@ use std::path::PathBuf;
 
 use common::walk;
 use reference::file::{read_header, read_records, Header, MAX_FILE_BYTES};
+use reference::marks::mark;
 use reference::refusal::Refusal;
 use reference::writing::{file_bytes, rewrite, words, write};
 
-const HEADER: Header =
-    Header { principals: 5, flags: 0x12, ticket_life: 0x0102_0304, authenticator_life: 10 };
+const HEADER: Header = Header {
+    mark: mark(b"HD"),
+    principals: 5,
+    flags: 0x12,
+    ticket_life: 0x0102_0304,
+    authenticator_life: 10,
+};
 
 /// Bytes of all values, none of them 0 at the start.
 fn buffer(length: usize) -> Vec<u8> {
@@ -113,7 +119,8 @@ fn a_buffer_without_room_gives_21() {
 #[test]
 fn lengths_are_those_of_files() {
     let file = some_walk();
-    let (_, words) = words_of(&file);
+    let (header, words) = words_of(&file);
+    let file_bytes = |words: &[u32]| file_bytes(&header, words);
     assert_eq!(file_bytes(&words), file.len());
     assert_eq!(file_bytes(&[]), 13);
     // A record that is cut short and one of another mark have none.

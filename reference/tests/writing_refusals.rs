@@ -1,13 +1,19 @@
 //! What the writer turns away, the limits on both sides, and the order.
 
 use reference::file::Header;
+use reference::marks::{mark, FORMATS};
 use reference::writing::{file_bytes, write};
 
 const TM: u32 = 0x544d;
 const ST: u32 = 0x5354;
 const N: u32 = 5;
-const HEADER: Header =
-    Header { principals: N as u8, flags: 0x12, ticket_life: 100, authenticator_life: 10 };
+const HEADER: Header = Header {
+    mark: mark(b"HD"),
+    principals: N as u8,
+    flags: 0x12,
+    ticket_life: 100,
+    authenticator_life: 10,
+};
 /// Words wider than a field of one byte, two of them with a good low byte.
 const WIDE: [u32; 4] = [0x0001_0001, 0x0100_0002, 1 << 31, u32::MAX];
 
@@ -46,11 +52,12 @@ fn steps() -> Vec<(Words, [bool; 5])> {
 
 /// The refusal's number; it leaves a buffer as it was. The buffer has room.
 fn refusal_under(header: Header, words: &[u32]) -> u8 {
-    let before: Vec<u8> = (0..file_bytes(words) + 40).map(|at| (at * 7 + 3) as u8).collect();
+    let length = file_bytes(&header, words);
+    let before: Vec<u8> = (0..length + 40).map(|at| (at * 7 + 3) as u8).collect();
     let mut buffer = before.clone();
     match write(&header, words, &mut buffer, 11) {
         Ok(count) => {
-            assert_eq!(count, file_bytes(words));
+            assert_eq!(count, length);
             0
         }
         Err(refusal) => {
@@ -180,8 +187,10 @@ fn used_fields_out_of_range_give_6() {
 /// The header of the call decides which parties there are.
 #[test]
 fn parties_are_those_of_the_header() {
-    for n in 3..=16 {
-        let header = Header { principals: n, flags: 0, ..HEADER };
+    let counts = |most| 3..=most;
+    let all = FORMATS.iter().flat_map(|f| counts(f.most_principals).map(|n| (f.mark, n)));
+    for (mark, n) in all {
+        let header = Header { mark, principals: n, flags: 0, ..HEADER };
         let n = u32::from(n);
         for (words, field) in [([TM, 0, 0, 0, 0, 0, 0], 2), ([TM, 3, 0, 0, 0, 0, 0], 2)]
             .into_iter()
@@ -211,7 +220,8 @@ fn headers_are_looked_at_as_in_reading() {
     }
     let most = u32::MAX;
     for (principals, flags) in [(3, 6), (16, 0xfffe), (15, 0x7ffe)] {
-        let header = Header { principals, flags, ticket_life: most, authenticator_life: 1 };
+        let header =
+            Header { principals, flags, ticket_life: most, authenticator_life: 1, ..HEADER };
         assert_eq!(refusal_under(header, &[]), 0);
         assert_eq!(
             refusal_under(Header { ticket_life: 1, authenticator_life: most, ..header }, &[]),
@@ -261,9 +271,9 @@ fn list(terms: usize, steps: usize, rest: &[u32]) -> Vec<u32> {
 #[test]
 fn files_of_more_than_65536_bytes_give_1() {
     // 13 + 7 * 9 + 12 * 5,455 = 65,536 and 13 + 7 * 4 + 12 * 5,458 = 65,537.
-    assert_eq!(file_bytes(&list(9, 5_455, &[])), 65_536);
+    assert_eq!(file_bytes(&HEADER, &list(9, 5_455, &[])), 65_536);
     assert_eq!(refusal(&list(9, 5_455, &[])), 0);
-    assert_eq!(file_bytes(&list(4, 5_458, &[])), 65_537);
+    assert_eq!(file_bytes(&HEADER, &list(4, 5_458, &[])), 65_537);
     assert_eq!(refusal(&list(4, 5_458, &[])), 1);
     assert_eq!(refusal(&list(0, 5_460, &[])), 0);
     assert_eq!(refusal(&list(0, 5_461, &[])), 1);

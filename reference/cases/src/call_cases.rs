@@ -9,7 +9,8 @@ mod refused;
 mod thin;
 mod walks;
 
-use reference::file::Header;
+use reference::file::{Header, Settings};
+use reference::marks::mark;
 use reference::tables::ROW;
 
 use crate::calls::{record, Lent, World};
@@ -85,7 +86,11 @@ fn made_all(world: &World, calls: &[Call]) -> World {
     calls.iter().fold(world.clone(), |world, call| made(&world, *call))
 }
 
-const HEADER: Header = Header { principals: 3, flags: 0, ticket_life: 100, authenticator_life: 10 };
+const HEADER: Header =
+    Header { mark: mark(b"HD"), principals: 3, flags: 0, ticket_life: 100, authenticator_life: 10 };
+
+/// The most principals that a realm can have.
+const WIDE: Header = Header { mark: mark(b"HW"), principals: 32, ..HEADER };
 
 /// Lives that no clock of a file is above.
 const LONG: Header = Header { ticket_life: u32::MAX, authenticator_life: u32::MAX, ..HEADER };
@@ -148,9 +153,10 @@ impl Script<World> {
     }
 
     fn open(&mut self, text: &str, header: Header) {
-        let Header { principals, flags, ticket_life, authenticator_life } = header;
+        let Header { mark, principals, flags, ticket_life, authenticator_life } = header;
+        let (mark, n) = (mark.into(), principals.into());
         self.text(text);
-        self.numbers('O', &[principals.into(), flags.into(), ticket_life, authenticator_life]);
+        self.numbers('O', &[mark, n, flags, ticket_life, authenticator_life]);
     }
 
     /// Calls one after the other, from a new realm.
@@ -172,12 +178,12 @@ fn lines_between(now: &World, wanted: &World) -> Vec<Line> {
     let (old, new) = (&now.tables, &wanted.tables);
     let mut lines = Vec::new();
     let mut set = |letter: char, numbers: &[u32]| lines.push(Line::new(letter, numbers));
-    let (header, counts, lent) = (new.header, new.counts, wanted.lent);
-    if (old.header, old.clock, now.lent.cache) != (header, new.clock, lent.cache) {
-        let Header { principals, flags, ticket_life, authenticator_life } = header;
+    let (settings, counts, lent) = (new.settings, new.counts, wanted.lent);
+    if (old.settings, old.clock, now.lent.cache) != (settings, new.clock, lent.cache) {
+        let Settings { principals, flags, ticket_life, authenticator_life } = settings;
         let lives = [ticket_life, authenticator_life];
         let places = lent.cache as u32;
-        set('H', &[principals.into(), flags.into(), lives[0], lives[1], new.clock, places]);
+        set('H', &[principals.into(), flags, lives[0], lives[1], new.clock, places]);
     }
     let others = |lent: Lent| (lent.terms, lent.runs, lent.wire);
     if (old.counts, others(now.lent)) != (counts, others(lent)) {
@@ -230,6 +236,7 @@ pub fn script() -> Script<World> {
     walks::lettered(&mut script);
     walks::long_lives(&mut script);
     walks::leaked_key(&mut script);
+    refused::principals(&mut script);
     broken::openings(&mut script);
     broken::headers(&mut script);
     broken::lengths_and_counts(&mut script);

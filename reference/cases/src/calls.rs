@@ -9,7 +9,7 @@
 //! - R: a run, one of its seven words, and its value
 //! - W: a word of the wire, and its halves
 //! - E: a place of the cache; b, K and Ta
-//! - O: n, flags, Ls, La; opens a realm, which the calls then have
+//! - O: mark, n, flags, Ls, La; opens a realm, which the calls then have
 //! - A: kind, L, R; adds a term
 //! - S: step, run, a, b, m, t; takes a step
 //! - M: b, K, Ta; remembers an entry, by the call of that name alone
@@ -19,7 +19,7 @@
 
 use std::fmt::Write;
 
-use reference::file::{Header, Record, StepRecord, TermRecord};
+use reference::file::{Header, Record, Settings, StepRecord, TermRecord};
 use reference::realm::{Answer, MAX_ENTRIES};
 use reference::refusal::Refusal;
 use reference::tables::{
@@ -55,10 +55,10 @@ pub struct World {
 
 impl Default for World {
     fn default() -> World {
-        let header = Header { principals: 0, flags: 0, ticket_life: 0, authenticator_life: 0 };
+        let settings = Settings { principals: 0, flags: 0, ticket_life: 0, authenticator_life: 0 };
         World {
             tables: Tables {
-                header,
+                settings,
                 clock: 0,
                 counts: Counts::default(),
                 terms: vec![NO_TERM; TERM_PLACES + 1],
@@ -103,7 +103,7 @@ impl World {
 
     /// "A new hall has clock 0 and empty tables."
     pub fn open(&mut self, header: Header) -> Result<(), Refusal> {
-        self.tables.header = header.check()?;
+        self.tables.settings = header.check()?.settings();
         self.tables.clock = 0;
         self.tables.counts = Counts::default();
         Ok(())
@@ -116,7 +116,7 @@ impl World {
         match letter {
             'N' => *self = World::default(),
             'H' => {
-                tables.header = header(a, b, c, d);
+                tables.settings = settings([a, b, c, d]);
                 tables.clock = e;
                 self.lent.cache = f as usize;
             }
@@ -134,8 +134,13 @@ impl World {
     }
 }
 
-fn header(n: u32, flags: u32, ticket_life: u32, authenticator_life: u32) -> Header {
-    Header { principals: n as u8, flags: flags as u16, ticket_life, authenticator_life }
+fn settings([n, flags, ticket_life, authenticator_life]: [u32; 4]) -> Settings {
+    Settings { principals: n as u8, flags, ticket_life, authenticator_life }
+}
+
+fn header([mark, n, flags, ticket_life, authenticator_life, _]: [u32; 6]) -> Header {
+    let (mark, principals) = (mark as u16, n as u8);
+    Header { mark, principals, flags, ticket_life, authenticator_life }
 }
 
 pub fn word(kind: u32, left: u32, right: u32) -> u64 {
@@ -165,10 +170,7 @@ impl Program for World {
         };
         let before = self.clone();
         let answer = match letter {
-            'O' => {
-                let [n, flags, ls, la, ..] = numbers;
-                self.open(header(n, flags, ls, la)).map(|()| Answer::Done)
-            }
+            'O' => self.open(header(numbers)).map(|()| Answer::Done),
             'A' | 'S' => self.call(&record(letter, numbers)),
             'M' | 'F' => self.thin_call(letter, numbers),
             _ => return self.set(letter, numbers),
@@ -213,12 +215,12 @@ pub fn word_changes(name: &str, before: &[u64], after: &[u64], output: &mut Stri
 
 /// n, flags, Ls, La, the clock and the three counts.
 fn fields(tables: &Tables) -> [u64; 8] {
-    let Tables { header, clock, counts, .. } = tables;
+    let Tables { settings, clock, counts, .. } = tables;
     [
-        header.principals.into(),
-        header.flags.into(),
-        header.ticket_life.into(),
-        header.authenticator_life.into(),
+        settings.principals.into(),
+        settings.flags.into(),
+        settings.ticket_life.into(),
+        settings.authenticator_life.into(),
         (*clock).into(),
         counts.terms as u64,
         counts.runs as u64,

@@ -8,7 +8,7 @@
 //! - W: a word of the wire, and its halves
 //! - Q: a term's number; writes whether the intruder can derive it
 
-use reference::file::{Header, Record, StepRecord};
+use reference::file::{Record, Settings, StepRecord};
 use reference::realm::MAX_ENTRIES;
 use reference::refusal::Refusal;
 use reference::tables::{Counts, Place, Tables, RUN_WORDS, TERM_PLACES, WIRE_WORDS};
@@ -42,7 +42,7 @@ impl Questions {
     /// Step 10 asks the same of a realm without runs.
     fn answer(&self, term: u32) -> String {
         let mut tables = Tables {
-            header: Header { principals: 3, flags: 4, ticket_life: 1, authenticator_life: 1 },
+            settings: Settings { principals: 3, flags: 4, ticket_life: 1, authenticator_life: 1 },
             clock: 0,
             counts: Counts { terms: self.lent.count, ..Counts::default() },
             terms: self.terms[..self.lent.places].to_vec(),

@@ -17,7 +17,7 @@
 use std::fmt::Write;
 
 use reference::fields::nonce_or_key;
-use reference::file::{Header, Record, TermRecord};
+use reference::file::{Record, Settings, TermRecord};
 use reference::realm::{Answer, Realm, MAX_ENTRIES};
 use reference::refusal::Refusal;
 use reference::tables::{Counts, Place, Tables, RUN_WORDS, TERM_PLACES, WIRE_WORDS};
@@ -55,7 +55,7 @@ impl Table {
     /// The places that are lent, as the term table of a realm without runs.
     fn lent(&self) -> Tables {
         Tables {
-            header: Header { principals: 3, flags: 0, ticket_life: 1, authenticator_life: 1 },
+            settings: Settings { principals: 3, flags: 0, ticket_life: 1, authenticator_life: 1 },
             clock: 0,
             counts: Counts { terms: self.count, ..Counts::default() },
             terms: self.terms[..self.places].to_vec(),

@@ -7,6 +7,7 @@ use compare::writes::{difference, Writer};
 use compare::Outcome;
 use generator::writes::Write;
 use reference::file::{Header, MAX_FILE_BYTES};
+use reference::marks::{format_of, mark, FORMATS};
 use reference::writing::{file_bytes, write};
 
 fn same(header: &Header, words: &[u32], buffer: &mut [u8], at: usize) -> Result<usize, u8> {
@@ -37,7 +38,7 @@ fn narrow(header: &Header, words: &[u32], buffer: &mut [u8], at: usize) -> Resul
 
 /// Writes the header before it looks at the records and the room.
 fn hasty(header: &Header, words: &[u32], buffer: &mut [u8], at: usize) -> Result<usize, u8> {
-    if file_bytes(words) <= MAX_FILE_BYTES {
+    if file_bytes(header, words) <= MAX_FILE_BYTES {
         let _ = same(header, &[], buffer, at);
     }
     same(header, words, buffer, at)
@@ -45,7 +46,7 @@ fn hasty(header: &Header, words: &[u32], buffer: &mut [u8], at: usize) -> Result
 
 /// Looks at the room first.
 fn room_first(header: &Header, words: &[u32], buffer: &mut [u8], at: usize) -> Result<usize, u8> {
-    let needed = file_bytes(words);
+    let needed = file_bytes(header, words);
     if buffer.len().checked_sub(at).is_none_or(|left| left < needed) {
         return Err(21);
     }
@@ -55,7 +56,9 @@ fn room_first(header: &Header, words: &[u32], buffer: &mut [u8], at: usize) -> R
 /// Lets the sum of the offset and the length wrap.
 fn wrapping(header: &Header, words: &[u32], buffer: &mut [u8], at: usize) -> Result<usize, u8> {
     match same(header, words, buffer, at) {
-        Err(21) if at.wrapping_add(file_bytes(words)) <= buffer.len() => Ok(file_bytes(words)),
+        Err(21) if at.wrapping_add(file_bytes(header, words)) <= buffer.len() => {
+            Ok(file_bytes(header, words))
+        }
         answer => answer,
     }
 }
@@ -74,16 +77,43 @@ fn lenient(header: &Header, words: &[u32], buffer: &mut [u8], at: usize) -> Resu
     same(header, &words[..words.len() / 7 * 7], buffer, at)
 }
 
+/// Has one limit of n for every mark.
+fn one_limit(header: &Header, words: &[u32], buffer: &mut [u8], at: usize) -> Result<usize, u8> {
+    if header.principals > 16 {
+        return Err(2);
+    }
+    same(header, words, buffer, at)
+}
+
+/// Keeps the flags that two bytes have room for.
+fn low_flags(header: &Header, words: &[u32], buffer: &mut [u8], at: usize) -> Result<usize, u8> {
+    same(&Header { flags: header.flags & 0xffff, ..*header }, words, buffer, at)
+}
+
+/// Takes another mark for HD.
+fn any_mark(header: &Header, words: &[u32], buffer: &mut [u8], at: usize) -> Result<usize, u8> {
+    let mark = format_of(header.mark).unwrap_or(&FORMATS[0]).mark;
+    same(&Header { mark, ..*header }, words, buffer, at)
+}
+
 #[test]
 fn wrong_writers_are_found() {
-    for writer in [narrow, hasty, room_first, wrapping, closing, lenient] as [Writer; 6] {
+    let wrong = [narrow, hasty, room_first, wrapping, closing, lenient] as [Writer; 6];
+    let wrong_marks = [one_limit, low_flags, any_mark] as [Writer; 3];
+    for writer in wrong.into_iter().chain(wrong_marks) {
         let outcome = over(writer, 2000);
         assert!(outcome.different > 10, "{}", outcome.different);
     }
 }
 
 fn some_write() -> Write {
-    let header = Header { principals: 3, flags: 0, ticket_life: 100, authenticator_life: 10 };
+    let header = Header {
+        mark: mark(b"HD"),
+        principals: 3,
+        flags: 0,
+        ticket_life: 100,
+        authenticator_life: 10,
+    };
     Write { header, words: vec![0x5354, 7, 0, 0, 0, 0, 9], buffer: vec![7; 30], at: 2 }
 }
 

@@ -186,8 +186,8 @@ fn some_nonce(walk: &mut Walk) -> u8 {
 /// A time at or next to one that matters: the clock, a time held by a run or an
 /// entry, the end of a life, and the ends of the range.
 pub fn some_time(walk: &mut Walk) -> u32 {
-    let header = walk.realm.header;
-    let (ls, la) = (u64::from(header.ticket_life), u64::from(header.authenticator_life));
+    let settings = walk.realm.settings;
+    let (ls, la) = (u64::from(settings.ticket_life), u64::from(settings.authenticator_life));
     let clock = u64::from(walk.realm.clock);
     let mut times =
         vec![clock, clock, clock + 1, clock.saturating_sub(ls), clock.saturating_sub(la)];

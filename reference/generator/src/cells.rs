@@ -1,4 +1,7 @@
-//! The cells of the coverage table: what document 01 makes possible.
+//! The cells of the coverage table: what document 01 and its changes make
+//! possible.
+
+use reference::marks::FORMATS;
 
 /// The refusals that a step can give, from the input table and the column
 /// "steps" of the state table.
@@ -39,9 +42,8 @@ pub fn refusals_of_kind(kind: u8) -> &'static [u8] {
 /// The cells for the file, for each kind and for each step.
 pub fn main_cells() -> Vec<String> {
     let mut cells: Vec<String> =
-        ["HD / ok", "file / refused 1", "file / refused 2", "file / refused 3"]
-            .map(String::from)
-            .into();
+        FORMATS.iter().map(|format| format!("{} / ok", format.letters())).collect();
+    cells.extend((1..=3).map(|refusal| format!("file / refused {refusal}")));
     for kind in 0..=6 {
         cells.extend(["new", "old"].map(|answer| format!("TM {kind} / {answer}")));
         cells.extend(refusals_of_kind(kind).iter().map(|r| format!("TM {kind} / refused {r}")));

@@ -76,7 +76,7 @@ fn term_facts(realm: &Realm, record: &TermRecord, facts: &mut Facts) {
         return;
     }
     facts.refuse_if([0, 2, 3, 4].contains(&kind) && right != 0, 5, "R");
-    let n = u16::from(realm.header.principals);
+    let n = u16::from(realm.settings.principals);
     let count = realm.terms.count() as u16;
     match kind {
         0 | 3 => {
@@ -166,8 +166,8 @@ fn input_facts(realm: &Realm, record: &StepRecord, facts: &mut Facts) {
     }
     let limits = [
         u32::from(realm.runs.len() as u8),
-        realm.header.principals.into(),
-        realm.header.principals.into(),
+        realm.settings.principals.into(),
+        realm.settings.principals.into(),
         realm.terms.count() as u32,
         u32::MAX,
     ];
@@ -259,12 +259,12 @@ fn over(realm: &Realm, start: Option<u32>, life: u32) -> bool {
 
 /// 16 to 19.
 fn expiry_facts(realm: &Realm, step: u8, read: Read, facts: &mut Facts) {
-    let header = realm.header;
-    facts.refuse_if((4..=6).contains(&step) && over(realm, read.ts, header.ticket_life), 16, "");
+    let settings = realm.settings;
+    facts.refuse_if((4..=6).contains(&step) && over(realm, read.ts, settings.ticket_life), 16, "");
     if step != 5 {
         return;
     }
-    facts.refuse_if(over(realm, read.ta, header.authenticator_life), 17, "");
+    facts.refuse_if(over(realm, read.ta, settings.authenticator_life), 17, "");
     let same = |e: &Entry| {
         (e.responder, e.session_key, Some(e.authenticator_time)) == (read.b, read.key, read.ta)
     };

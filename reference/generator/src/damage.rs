@@ -1,21 +1,22 @@
 //! Bytes that are no good walk: damaged files, bad headers, random records and
 //! random bytes.
 
-use reference::file::{Header, Record, StepRecord, TermRecord, HEADER_BYTES, MAX_FILE_BYTES};
+use reference::file::{Record, StepRecord, TermRecord, MAX_FILE_BYTES};
+use reference::marks::FORMATS;
 use reference::writing::{header_bytes, record_bytes};
 
+use crate::headers::{any_header, spoilt_header, unknown_mark};
 use crate::random::Random;
-use crate::scenes::any_header;
 
 /// Up to four damages: a byte changed, taken out or put in, the end cut off, a
-/// stretch doubled, a mark put in the middle.
+/// stretch doubled, a mark put in the middle, a header's mark at the front.
 pub fn damage(random: &mut Random, mut bytes: Vec<u8>) -> Vec<u8> {
     for _ in 0..random.between(1, 4) {
         let at = random.below(bytes.len().max(1)).min(bytes.len());
         if bytes.is_empty() {
             break;
         }
-        match random.below(8) {
+        match random.below(9) {
             0 | 1 => bytes[at] = random.byte(),
             2 => bytes[at] ^= 1 << random.below(8),
             3 => drop(bytes.remove(at)),
@@ -26,13 +27,19 @@ pub fn damage(random: &mut Random, mut bytes: Vec<u8>) -> Vec<u8> {
                 let stretch = bytes[at..end].to_vec();
                 bytes.splice(at..at, stretch);
             }
-            _ => {
-                let mark = random.pick(&[*b"HD", *b"TM", *b"ST", *b"XX"]);
+            7 => {
+                let marks = [header_mark(random), *b"TM", *b"ST", *b"XX"];
+                let mark = random.pick(&marks);
                 bytes.splice(at..(at + 2).min(bytes.len()), mark);
             }
+            _ => drop(bytes.splice(..bytes.len().min(2), header_mark(random))),
         }
     }
     bytes
+}
+
+fn header_mark(random: &mut Random) -> [u8; 2] {
+    random.pick(&FORMATS).mark.to_be_bytes()
 }
 
 /// A good header, then records whose fields are small or of any value, and at
@@ -69,29 +76,18 @@ pub fn random_records(random: &mut Random) -> Vec<u8> {
     bytes
 }
 
-/// A header with one value or two at or past the ends of its range.
-pub fn spoilt_header(random: &mut Random) -> Header {
-    let mut header: Header = any_header(random);
-    for _ in 0..random.pick(&[1, 1, 1, 2]) {
-        let at_n = 1u32.checked_shl(header.principals.into()).unwrap_or(0);
-        match random.below(6) {
-            0 => header.principals = random.pick(&[0, 1, 2, 2, 17, 17, 18, 32, 255]),
-            1 => header.flags |= 1,
-            2 => header.flags |= at_n as u16,
-            3 => header.flags |= (at_n << 1) as u16,
-            4 => header.ticket_life = 0,
-            _ => header.authenticator_life = 0,
-        }
-    }
-    header
-}
-
 /// A file with a spoilt header, or one that is not whole.
 pub fn bad_header(random: &mut Random) -> Vec<u8> {
     let mut bytes = header_bytes(&spoilt_header(random));
     match random.below(6) {
-        0 => bytes.truncate(random.below(HEADER_BYTES)),
-        1 => bytes[..2].copy_from_slice(&random.pick(&[*b"HW", *b"hd", *b"DH", *b"ST", *b"TM"])),
+        0 => {
+            let any = 1 + random.below(bytes.len());
+            bytes.truncate(bytes.len() - random.pick(&[1, 2, any, any]));
+        }
+        1 => {
+            let marks = [header_mark(random), unknown_mark(random).to_be_bytes()];
+            bytes[..2].copy_from_slice(&random.pick(&marks));
+        }
         2 => bytes.resize(random.pick(&[MAX_FILE_BYTES, MAX_FILE_BYTES + 1]), 0),
         _ => bytes
             .extend(record_bytes(&Record::Step(StepRecord { step: 7, ..StepRecord::default() }))),

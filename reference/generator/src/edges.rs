@@ -1,13 +1,17 @@
 //! The second part of the coverage table: in which way a cell was met.
 
+use reference::marks::FORMATS;
+
 use crate::cells::refusals_of_kind;
-use crate::forms;
+use crate::{forms, header_cells};
 
 /// Cells that say in which way a cell above was met: each condition of a
 /// refusal while no other condition of it holds, the limits hit exactly, and
 /// the order of two refusals that apply.
 pub fn edge_cells() -> Vec<String> {
     let mut cells = file_edges();
+    cells.extend(header_cells::edges());
+    cells.extend(principal_edges());
     cells.extend(term_edges());
     cells.extend(input_edges());
     cells.extend(stage_and_form_edges());
@@ -17,27 +21,45 @@ pub fn edge_cells() -> Vec<String> {
 }
 
 /// Only files of more than 65,000 bytes meet these.
-pub const LONG_CELLS: [&str; 4] = [
-    "HD / ok / 65,536 bytes",
-    "file / refused 1 / over 65,536 bytes",
-    "file / refused 1 / over 65,536 bytes, bad header too",
-    "file / refused 1 / 65,537 bytes of whole records",
-];
+pub fn long_cells() -> Vec<String> {
+    let refused =
+        ["over 65,536 bytes", "over 65,536 bytes, bad header too", "65,537 bytes of whole records"];
+    let accepted = FORMATS.iter().map(|format| format!("{} / ok / 65,536 bytes", format.letters()));
+    accepted.chain(refused.map(|how| format!("file / refused 1 / {how}"))).collect()
+}
 
 fn file_edges() -> Vec<String> {
-    let mut cells: Vec<String> = LONG_CELLS.map(String::from).into();
-    for how in ["n is 3", "n is 16", "nothing follows"] {
-        cells.push(format!("HD / ok / {how}"));
-    }
-    for how in ["empty", "cut short", "another mark"] {
-        cells.push(format!("file / refused 1 / {how}"));
-    }
-    for how in ["n is 2", "n is 17", "flag on 0", "flag at n", "flag above n", "Ls is 0", "La is 0"]
-    {
-        cells.push(format!("file / refused 2 / {how}"));
-    }
-    for how in ["another mark", "second HD", "one byte", "TM cut short", "ST cut short"] {
+    let mut cells = long_cells();
+    for how in ["another mark", "one byte", "TM cut short", "ST cut short"] {
         cells.push(format!("file / refused 3 / {how}"));
+    }
+    cells
+}
+
+/// Principals that a header of 16 flags has no room for, the last of 32 and the
+/// first that no realm has.
+fn principal_edges() -> Vec<String> {
+    let mut cells = Vec::new();
+    for kind in [0, 3] {
+        cells.extend([16, 31].map(|p| format!("TM {kind} / new / L is {p}")));
+        cells.push(format!("TM {kind} / refused 6 / L is n, n is 32"));
+    }
+    for step in [1, 2, 3, 4, 5, 6, 8] {
+        let fields: &[&str] = if step == 8 { &["b"] } else { &["a", "b"] };
+        for field in fields {
+            cells.push(format!("step {step} / ok / {field} above 15"));
+            cells.push(format!("step {step} / ok / {field} is 31"));
+            if ![3, 4, 5, 6].contains(&step) {
+                let cell = format!("step {step} / refused 6 / {field} not present, the first");
+                cells.push(cell + ", n is 32");
+            }
+        }
+    }
+    cells.push("step 8 / ok / an entry of 31 goes".into());
+    for principal in [16, 31] {
+        for answer in ["ok", "refused 15"] {
+            cells.push(format!("step 10 / {answer} / long-term key of {principal}"));
+        }
     }
     cells
 }

@@ -4,9 +4,10 @@ use reference::file::{StepRecord, MAX_FILE_BYTES, STEP_BYTES};
 use reference::terms::{Message, Shape};
 
 use crate::actions;
+use crate::headers::any_header;
 use crate::limits::full_tables;
 use crate::random::Random;
-use crate::scenes::{any_header, deliver};
+use crate::scenes::deliver;
 use crate::walk::Walk;
 
 /// Terms made of the last term over and over, up to the whole table: pairs with

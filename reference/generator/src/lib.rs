@@ -12,6 +12,8 @@ pub mod damage;
 pub mod edges;
 pub mod extremes;
 pub mod forms;
+pub mod header_cells;
+pub mod headers;
 pub mod limits;
 pub mod observer;
 pub mod random;

@@ -7,8 +7,9 @@ use reference::terms::MAX_TERMS;
 use crate::actions;
 use crate::conditions::facts;
 use crate::forms::Sends;
+use crate::headers::any_header;
 use crate::random::Random;
-use crate::scenes::{act, any_header, deliver, made_delivery, set_clock};
+use crate::scenes::{act, deliver, made_delivery, set_clock};
 use crate::walk::Walk;
 
 /// Adds terms until only so many places are left.
@@ -162,8 +163,8 @@ pub fn last_places(random: &mut Random) -> Walk {
 /// At times the clock goes to the end of a life, or past it.
 fn pass_time(walk: &mut Walk) {
     if walk.random.one_in(3) {
-        let header = walk.realm.header;
-        let life = walk.random.pick(&[header.ticket_life, header.authenticator_life]);
+        let settings = walk.realm.settings;
+        let life = walk.random.pick(&[settings.ticket_life, settings.authenticator_life]);
         let time = life.saturating_add(walk.random.between(0, 1)) - walk.random.between(0, 1);
         set_clock(walk, time);
     }

@@ -2,8 +2,9 @@
 
 use std::collections::HashMap;
 
-use reference::file::{Header, Record, StepRecord, TermRecord};
+use reference::file::{Record, Settings, StepRecord, TermRecord};
 use reference::intruder::FIRST_OF_INTRUDER;
+use reference::marks::{format_at, MAX_PRINCIPALS};
 use reference::realm::{Answer, Entry, Realm, Role, Run, MAX_ENTRIES, MAX_RUNS};
 use reference::refusal::Refusal;
 use reference::terms::{Message, MAX_TERMS};
@@ -22,9 +23,9 @@ pub struct Observer {
 }
 
 impl Observer {
-    pub fn new(header: Header) -> Observer {
+    pub fn new(settings: Settings) -> Observer {
         let (cells, depths, refused) = (Vec::new(), HashMap::new(), HashMap::new());
-        Observer { realm: Realm::new(header), cells, depths, refused }
+        Observer { realm: Realm::new(settings), cells, depths, refused }
     }
 
     pub fn met(&mut self, cell: &str) {
@@ -41,10 +42,12 @@ impl Observer {
         self.met("file / refused 3");
         let how = match rest {
             [_] => "one byte",
-            [b'H', b'D', ..] => "second HD",
             [b'T', b'M', ..] => "TM cut short",
             [b'S', b'T', ..] => "ST cut short",
-            _ => "another mark",
+            _ => match format_at(rest) {
+                Some(format) => &format!("second {}", format.letters()),
+                None => "another mark",
+            },
         };
         self.met(&format!("file / refused 3 / {how}"));
     }
@@ -82,7 +85,10 @@ impl Observer {
     fn refusal(&mut self, subject: &str, facts: &Facts, number: u8) {
         self.met(&format!("{subject} / refused {number}"));
         if let Some(detail) = facts.only_detail(number) {
-            self.met(&format!("{subject} / refused {number} / {detail}"));
+            let cell = format!("{subject} / refused {number} / {detail}");
+            let widest = self.realm.settings.principals == MAX_PRINCIPALS;
+            self.met_if(widest, &format!("{cell}, n is 32"));
+            self.met(&cell);
         }
         for later in facts.applies.iter().skip(1) {
             self.met(&format!("{subject} / refused {number} before {later}"));
@@ -101,8 +107,12 @@ impl Observer {
         }
         self.met(&format!("{subject} / new"));
         self.met_if(facts.free_terms == 1, &format!("{subject} / new / last place"));
-        let highest = matches!(record.kind, 2 | 4) && record.left == 95;
-        self.met_if(highest, &format!("{subject} / new / L is 95"));
+        let named = match record.kind {
+            0 | 3 => [16, 31].contains(&record.left),
+            2 | 4 => record.left == 95,
+            _ => false,
+        };
+        self.met_if(named, &format!("{subject} / new / L is {}", record.left));
         let last = self.realm.terms.present()[self.realm.terms.count() - 1].clone();
         let deep = self.depth(&last) > DEEP;
         self.met_if(deep, &format!("{subject} / new / deeper than 200"));
@@ -141,6 +151,7 @@ impl Observer {
                 self.met_if(full && new_terms > Some(0), &format!("{subject} / ok / last place"));
                 let last_entry = step == 5 && self.realm.cache.len() == MAX_ENTRIES;
                 self.met_if(last_entry, "step 5 / ok / last entry");
+                self.principal_cells(record, facts);
             }
             Err(refusal) => {
                 let number = refusal.number();
@@ -151,6 +162,20 @@ impl Observer {
                     self.refused.insert((record.run, record.message), number);
                 }
             }
+        }
+    }
+
+    /// The principals that an accepted step is about.
+    fn principal_cells(&mut self, record: &StepRecord, facts: &Facts) {
+        let step = record.step;
+        let (a, b) = match (step, facts.read) {
+            (1 | 2 | 8, _) => (record.a, record.b),
+            (3..=6, Some(read)) => (read.a, read.b),
+            _ => return,
+        };
+        for (name, principal) in [("a", a), ("b", b)] {
+            self.met_if(principal > 15, &format!("step {step} / ok / {name} above 15"));
+            self.met_if(principal == 31, &format!("step {step} / ok / {name} is 31"));
         }
     }
 
@@ -221,6 +246,7 @@ impl Observer {
             Some((forms::Kind::Nonce, number)) => format!("nonce {number}"),
             Some((forms::Kind::SessionKey, number)) => format!("session key {number}"),
             Some((forms::Kind::LongTermKey, 0)) => "the server's long-term key".into(),
+            Some((forms::Kind::LongTermKey, p)) => format!("long-term key of {p}"),
             _ => String::new(),
         };
         match answer {
@@ -249,12 +275,12 @@ impl Observer {
 
     fn time_cells(&mut self, step: u8, facts: &Facts, answer: Option<u8>) {
         let Some(read) = facts.read else { return };
-        let header = self.realm.header;
+        let settings = self.realm.settings;
         let clock = u64::from(self.realm.clock);
         let ta = read.ta.filter(|_| step == 5);
         let lives = [
-            (read.ts, header.ticket_life, "Ts + Ls", 16),
-            (ta, header.authenticator_life, "Ta + La", 17),
+            (read.ts, settings.ticket_life, "Ts + Ls", 16),
+            (ta, settings.authenticator_life, "Ta + La", 17),
         ];
         for (start, life, name, number) in lives {
             let Some(start) = start else { continue };
@@ -281,11 +307,13 @@ impl Observer {
     fn forget_cells(&mut self, b: u8) {
         self.met_if(b == 0, "step 8 / ok / b is 0");
         let (clock, life) =
-            (u64::from(self.realm.clock), u64::from(self.realm.header.authenticator_life));
+            (u64::from(self.realm.clock), u64::from(self.realm.settings.authenticator_life));
         for entry in self.realm.cache.clone() {
             let end = u64::from(entry.authenticator_time) + life;
             let own = entry.responder == b;
             self.met_if(own && end == clock, "step 8 / ok / an entry goes at its tick");
+            let last = own && b == MAX_PRINCIPALS - 1 && end <= clock;
+            self.met_if(last, "step 8 / ok / an entry of 31 goes");
             self.met_if(own && end == clock + 1, "step 8 / ok / an entry stays one tick before");
             self.met_if(
                 !own && end <= clock,

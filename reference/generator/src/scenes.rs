@@ -1,9 +1,10 @@
 //! The kinds of walk files, and how often each is made.
 
-use reference::file::{Header, StepRecord};
+use reference::file::StepRecord;
 use reference::realm::{Answer, MAX_ENTRIES};
 use reference::terms::Shape;
 
+use crate::headers::any_header;
 use crate::random::Random;
 use crate::walk::Walk;
 use crate::{actions, damage, extremes, limits};
@@ -40,30 +41,6 @@ fn file_of(random: &mut Random, kind: usize) -> Vec<u8> {
         180..=189 => damage::random_records(random),
         190..=195 => damage::bad_header(random),
         _ => damage::random_bytes(random),
-    }
-}
-
-pub fn any_header(random: &mut Random) -> Header {
-    let principals = random.pick(&[3, 3, 4, 4, 5, 8, 15, 16]);
-    let clients = ((1u32 << principals) - 2) as u16;
-    let flags = match random.below(4) {
-        0 | 1 => 0,
-        2 => random.number() as u16 & random.number() as u16,
-        _ => random.number() as u16,
-    };
-    Header {
-        principals,
-        flags: flags & clients,
-        ticket_life: life(random, &[1, 5, 20, 100, 1000]),
-        authenticator_life: life(random, &[1, 2, 10, 100]),
-    }
-}
-
-fn life(random: &mut Random, usual: &[u32]) -> u32 {
-    match random.below(10) {
-        0 => random.pick(&[u32::MAX, u32::MAX - 1, 1 << 31]),
-        1 => random.between(1, 1 << 16),
-        _ => random.pick(usual),
     }
 }
 
@@ -278,7 +255,8 @@ pub fn spoilt_fields(random: &mut Random) -> Walk {
 /// bad principal's part or a leak, or lacks; and step 10 on them.
 pub fn locks(random: &mut Random) -> Walk {
     let mut header = any_header(random);
-    header.flags &= random.pick(&[0b0000, 0b0010, 0b1110]);
+    header.flags &= random.pick(&[0b0000, 0b0010, 0b1110, u32::MAX]);
+    header.flags |= random.pick(&[0, 1 << (header.principals - 1)]);
     let mut walk = Walk::new(random.clone(), header);
     for step in [1, 3, 1, 3, 4, 2, 5, 6, 4] {
         match step {
@@ -304,8 +282,15 @@ pub fn locks(random: &mut Random) -> Walk {
             1 => body,
             2 => key,
             3 => {
-                let ends =
-                    [Shape::Nonce(at_an_end), Shape::SessionKey(at_an_end), Shape::LongTermKey(0)];
+                let last = walk.principals() - 1;
+                let principal = walk.random.pick(&[last, last.min(16)]);
+                let ends = [
+                    Shape::Nonce(at_an_end),
+                    Shape::SessionKey(at_an_end),
+                    Shape::LongTermKey(0),
+                    Shape::LongTermKey(principal),
+                    Shape::LongTermKey(principal),
+                ];
                 let shape = walk.random.pick(&ends);
                 walk.make(shape)
             }

@@ -4,7 +4,7 @@ use std::collections::{HashMap, HashSet};
 
 use crate::cells::main_cells;
 use crate::coverage::cells_met;
-use crate::edges::{edge_cells, LONG_CELLS};
+use crate::edges::{edge_cells, long_cells};
 
 /// Longer files are left out; a full term table needs about 3,600 bytes.
 const LONGEST: usize = 6_000;
@@ -27,7 +27,8 @@ struct Candidate {
 pub fn wanted_cells() -> Vec<String> {
     let mut cells = main_cells();
     cells.extend(edge_cells());
-    cells.retain(|cell| !LONG_CELLS.contains(&cell.as_str()));
+    let long = long_cells();
+    cells.retain(|cell| !long.contains(cell));
     cells
 }
 

@@ -18,7 +18,8 @@ pub struct Walk {
 
 impl Walk {
     pub fn new(random: Random, header: Header) -> Walk {
-        Walk { bytes: header_bytes(&header), realm: Realm::new(header), random, past: Vec::new() }
+        let realm = Realm::new(header.settings());
+        Walk { bytes: header_bytes(&header), realm, random, past: Vec::new() }
     }
 
     pub fn put(&mut self, record: Record) -> Result<Answer, Refusal> {
@@ -70,12 +71,18 @@ impl Walk {
     }
 
     pub fn principals(&self) -> u8 {
-        self.realm.header.principals
+        self.realm.settings.principals
     }
 
-    /// A principal other than the server.
+    /// A principal other than the server, often the last.
     pub fn client(&mut self) -> u8 {
-        self.random.between(1, u32::from(self.principals()) - 1) as u8
+        let last = self.principals() - 1;
+        let any = self.random.between(1, last.into()) as u8;
+        if self.random.one_in(6) {
+            last
+        } else {
+            any
+        }
     }
 
     /// Two principals that a run can be opened for.

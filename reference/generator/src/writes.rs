@@ -11,6 +11,7 @@ pub mod records;
 use std::fmt;
 
 use reference::file::Header;
+use reference::marks::{format_of, letters};
 use reference::writing::{file_bytes, write, RECORD_WORDS, STEP_MARK, TERM_MARK};
 
 use crate::random::Random;
@@ -34,18 +35,19 @@ impl Write {
 
 pub fn any_write(random: &mut Random) -> Write {
     let (header, words) = lists::any_list(random);
-    let (buffer, at) = buffers::any_buffer(random, file_bytes(&words));
+    let (buffer, at) = buffers::any_buffer(random, file_bytes(&header, &words).max(1));
     Write { header, words, buffer, at }
 }
 
 /// The call in words, a line a record, and the reference's answer.
 impl fmt::Display for Write {
     fn fmt(&self, f: &mut fmt::Formatter) -> fmt::Result {
-        let Header { principals, flags, ticket_life, authenticator_life } = self.header;
-        writeln!(f, "HD {principals} {flags:#x} {ticket_life} {authenticator_life}")?;
+        let Header { mark, principals, flags, ticket_life, authenticator_life } = self.header;
+        let mark = format_of(mark).map_or(format!("{mark:#x}"), |_| letters(mark));
+        writeln!(f, "{mark} {principals} {flags:#x} {ticket_life} {authenticator_life}")?;
         for words in self.words.chunks(RECORD_WORDS) {
             let fields: Vec<String> = words[1..].iter().map(u32::to_string).collect();
-            writeln!(f, "{} {}", mark(words[0]), fields.join(" "))?;
+            writeln!(f, "{} {}", record_mark(words[0]), fields.join(" "))?;
         }
         writeln!(f, "into {} bytes at {}", self.buffer.len(), self.at)?;
         match self.answer().0 {
@@ -55,7 +57,7 @@ impl fmt::Display for Write {
     }
 }
 
-fn mark(word: u32) -> String {
+fn record_mark(word: u32) -> String {
     match word {
         TERM_MARK => "TM".into(),
         STEP_MARK => "ST".into(),

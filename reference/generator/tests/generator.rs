@@ -108,7 +108,16 @@ fn a_cell_names_what_happened() {
     has(met(b"ST\x0b\0\0\0\0\0\0\0\0\0"), "step other / refused 4");
     has(met(b"ST\x0a\0\0\0\0\0\0\0\0"), "file / refused 3 / ST cut short");
     has(cells_met(b""), "file / refused 1 / empty");
-    has(cells_met(b"HD\x03\0\x01\0\0\0\x01\0\0\0\x01"), "file / refused 2 / flag on 0");
+    has(cells_met(b"HD\x03\0\x01\0\0\0\x01\0\0\0\x01"), "file / refused 2 / HD, flag on 0");
+    has(cells_met(b"HW\x1f\x80\0\0\0\0\0\0\x01\0\0\0\x01"), "file / refused 2 / HW, flag 31 at n");
+    has(cells_met(b"HW\x20\x80\0\0\0\0\0\0\x01\0\0\0\x01"), "HW / ok / flag 31");
+    has(cells_met(b"HW\x21\0\0\0\0\0\0\0\x01\0\0\0\x01"), "file / refused 2 / HW, n is 33");
+    has(
+        cells_met(b"HW\x03\0\0\0\0\0\0\0\x01\0\0"),
+        "file / refused 1 / HW, cut short by two bytes",
+    );
+    has(cells_met(b"HX\x03\0\0\0\0\0\0\0\x01\0\0"), "file / refused 1 / another mark");
+    has(met(b"HW\x03"), "file / refused 3 / second HW");
 }
 
 #[test]

@@ -8,10 +8,16 @@ use generator::write;
 use generator::writes::coverage::{cells_met, report};
 use generator::writes::{cells, Write};
 use reference::file::Header;
+use reference::marks::mark;
 
 const SEED: u64 = 1;
-const HEADER: Header =
-    Header { principals: 4, flags: 2, ticket_life: 100, authenticator_life: u32::MAX };
+const HEADER: Header = Header {
+    mark: mark(b"HD"),
+    principals: 4,
+    flags: 2,
+    ticket_life: 100,
+    authenticator_life: u32::MAX,
+};
 
 #[test]
 fn a_write_depends_on_seed_and_number_alone() {
@@ -62,7 +68,7 @@ fn met(words: &[u32]) -> Vec<String> {
 fn a_cell_names_what_happened() {
     let (tm, st) = (0x544d, 0x5354);
     let cases: [(&[u32], &str); 14] = [
-        (&[], "write / ok / no records"),
+        (&[], "write / ok / HD, no records"),
         (&[], "write / ok / La is the highest"),
         (&[tm, 0, 3, 0, 0, 0, 1], "write / ok / words behind a term"),
         (&[tm, 0, 3, 0, 0, 0, 1], "TM 0 / written / L at its end"),

@@ -23,7 +23,7 @@ pub const CACHE_PLACES: usize = 16;
 #[derive(Clone, Copy, Debug, PartialEq, Eq)]
 pub struct Realm {
     pub n: u8,
-    pub flags: u16,
+    pub flags: u32,
     pub ticket_life: u32,
     pub authenticator_life: u32,
     pub clock: u32,

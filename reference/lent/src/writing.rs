@@ -2,6 +2,16 @@
 
 use reference::file::Header;
 
+/// A header as it is handed over, its mark first.
+#[repr(C)]
+struct HeaderFields {
+    mark: u16,
+    n: u8,
+    flags: u32,
+    ticket_life: u32,
+    authenticator_life: u32,
+}
+
 #[repr(C)]
 struct Filed {
     refusal: u8,
@@ -10,10 +20,7 @@ struct Filed {
 
 extern "C" {
     fn pogandir_write(
-        n: u8,
-        flags: u16,
-        ticket_life: u32,
-        authenticator_life: u32,
+        header: HeaderFields,
         words: *const u32,
         words_length: usize,
         out: *mut u8,
@@ -30,10 +37,7 @@ pub fn write(header: &Header, words: &[u32], buffer: &mut [u8], at: usize) -> Re
     // the contract has no requires.
     let filed = unsafe {
         pogandir_write(
-            header.principals,
-            header.flags,
-            header.ticket_life,
-            header.authenticator_life,
+            handed_over(header),
             words.as_ptr(),
             words.len(),
             buffer.as_mut_ptr(),
@@ -46,5 +50,15 @@ pub fn write(header: &Header, words: &[u32], buffer: &mut [u8], at: usize) -> Re
     } else {
         assert_eq!(filed.count, 0, "a refusal has no count");
         Err(filed.refusal)
+    }
+}
+
+fn handed_over(header: &Header) -> HeaderFields {
+    HeaderFields {
+        mark: header.mark,
+        n: header.principals,
+        flags: header.flags,
+        ticket_life: header.ticket_life,
+        authenticator_life: header.authenticator_life,
     }
 }

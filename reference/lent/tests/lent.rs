@@ -11,7 +11,7 @@ use reference::realm::{Answer as Expected, Realm};
 /// Each answer of a file, and the counts after it; how many records it has.
 fn compare(name: &str, file: &[u8]) -> usize {
     let Ok((header, mut rest)) = read_header(file) else { return 0 };
-    let mut realm = Realm::new(header);
+    let mut realm = Realm::new(header.settings());
     let mut tables = Tables::new(&header);
     let mut records = 0;
     while let Some(Ok((record, after))) = read_record(rest) {
@@ -141,10 +141,13 @@ fn broken_tables_are_refused() {
     }
     let ticks = Record::Step(StepRecord { step: 7, time: 5, ..StepRecord::default() });
     assert_eq!(whole.clone().call(&ticks), Answer::Ok);
-    let breaks: [fn(&mut Tables); 14] = [
+    let breaks: [fn(&mut Tables); 17] = [
         |t| t.realm.n = 2,
+        |t| t.realm.n = 33,
         |t| t.realm.flags = 1,
         |t| t.realm.flags = 8,
+        |t| t.realm.flags = 1 << 16,
+        |t| t.realm.flags = 1 << 31,
         |t| t.realm.ticket_life = 0,
         |t| t.realm.authenticator_life = 0,
         |t| t.realm.terms = 513,
@@ -163,5 +166,27 @@ fn broken_tables_are_refused() {
         let before = tables.clone();
         assert_eq!(tables.call(&ticks), Answer::Refused(10), "{number}");
         assert_eq!(tables, before, "{number}");
+    }
+}
+
+/// A realm keeps no mark: n goes to 32 in each, and its flags with it.
+#[test]
+fn tables_of_32_principals_hold_together() {
+    let ticks = Record::Step(StepRecord { step: 7, time: 5, ..StepRecord::default() });
+    let opens = Record::Step(StepRecord { step: 1, a: 30, b: 31, ..StepRecord::default() });
+    let (header, _) = read_header(b"HD\x03\0\0\0\0\0\x64\0\0\0\x0a").unwrap();
+    let cases = [
+        (17, 1 << 16, Answer::Ok, Answer::Refused(6)),
+        (31, 1 << 30, Answer::Ok, Answer::Refused(6)),
+        (31, 1 << 31, Answer::Refused(10), Answer::Refused(10)),
+        (32, 1 << 31, Answer::Ok, Answer::OkRun(0)),
+        (32, 0xffff_fffe, Answer::Ok, Answer::OkRun(0)),
+        (33, 0, Answer::Refused(10), Answer::Refused(10)),
+    ];
+    for (n, flags, ticked, opened) in cases {
+        let mut tables = Tables::new(&header);
+        (tables.realm.n, tables.realm.flags) = (n, flags);
+        assert_eq!(tables.clone().call(&ticks), ticked, "n {n}, flags {flags:#x}");
+        assert_eq!(tables.call(&opens), opened, "n {n}, flags {flags:#x}");
     }
 }

@@ -7,10 +7,12 @@ use std::path::PathBuf;
 use generator::writes::Write;
 use lent::write;
 use reference::file::{read_header, read_records, Header};
+use reference::marks::mark;
 use reference::writing::words;
 
 const CASE_F: &[u8] = include_bytes!("../../../examples/case-f.walk");
-const HEADER: Header = Header { principals: 3, flags: 0, ticket_life: 100, authenticator_life: 10 };
+const HEADER: Header =
+    Header { mark: mark(b"HD"), principals: 3, flags: 0, ticket_life: 100, authenticator_life: 10 };
 
 fn words_of(file: &[u8]) -> (Header, Vec<u32>) {
     let (header, rest) = read_header(file).unwrap();
@@ -122,5 +124,31 @@ fn refusals_have_their_numbers() {
         assert_eq!(write(&header, words, &mut buffer, 3), Err(2), "{words:?}");
         assert_eq!(write(&HEADER, words, &mut [], 3), Err(number), "{words:?}");
         assert!(buffer.iter().all(|byte| *byte == 5));
+    }
+}
+
+/// The bytes of either header, and the refusals that depend on the mark.
+#[test]
+fn headers_are_written_by_their_marks() {
+    let wide = Header { mark: mark(b"HW"), principals: 32, flags: 0x8000_0002, ..HEADER };
+    let mut buffer = [5; 16];
+    assert_eq!(write(&wide, &[], &mut buffer, 0), Ok(15));
+    assert_eq!(&buffer, b"HW\x20\x80\0\0\x02\0\0\0\x64\0\0\0\x0a\x05");
+    let headers = [
+        (1, Header { mark: mark(b"HX"), ..HEADER }),
+        (1, Header { mark: 0, principals: 2, ..HEADER }),
+        (2, Header { principals: 17, ..HEADER }),
+        (2, Header { principals: 16, flags: 1 << 16, ..HEADER }),
+        (2, Header { principals: 16, flags: 1 << 31, ..HEADER }),
+        (2, Header { principals: 33, flags: 0, ..wide }),
+        (2, Header { principals: 31, ..wide }),
+        (2, Header { flags: 1, ..wide }),
+    ];
+    for (number, header) in headers {
+        for words in [&[][..], &[0; 7], &[0]] {
+            let write = Write { header, words: words.to_vec(), buffer: vec![5; 99], at: 9 };
+            assert_eq!(write.answer().0, Err(number), "{write}");
+            check(&write, "a header");
+        }
     }
 }

@@ -9,6 +9,7 @@
 #![allow(dead_code)]
 
 use reference::listing;
+use reference::marks::{format_of, mark};
 
 /// An exchange of 1 and 2 up to the authenticator, and a responder run. Terms:
 /// 0 principal 1, 1 principal 2, 2 nonce 0, 4 the request, 5 K, 6 time 0,
@@ -38,14 +39,13 @@ fn field(record: &str, name: &str) -> u32 {
 pub fn record(text: &str) -> Vec<u8> {
     let words: Vec<&str> = text.split_whitespace().collect();
     let leading = || words[1].parse::<u32>().unwrap_or_else(|_| panic!("no number in {text}"));
-    let fields: &[(&str, usize)] = match words[0] {
+    let fields = match words[0] {
         "raw" => {
             return words[1..].iter().map(|word| u8::from_str_radix(word, 16).unwrap()).collect()
         }
-        "HD" => &[("n", 1), ("flags", 2), ("Ls", 4), ("La", 4)],
-        "TM" => &[("", 1), ("L", 2), ("R", 2)],
-        "ST" => &[("", 1), ("run", 1), ("a", 1), ("b", 1), ("m", 2), ("t", 4)],
-        _ => panic!("no record: {text}"),
+        "TM" => vec![("", 1), ("L", 2), ("R", 2)],
+        "ST" => vec![("", 1), ("run", 1), ("a", 1), ("b", 1), ("m", 2), ("t", 4)],
+        other => header_fields(other).unwrap_or_else(|| panic!("no record: {text}")),
     };
     let mut bytes = words[0].as_bytes().to_vec();
     for (name, size) in fields {
@@ -53,6 +53,12 @@ pub fn record(text: &str) -> Vec<u8> {
         bytes.extend(&value.to_be_bytes()[4 - size..]);
     }
     bytes
+}
+
+/// The fields of a header with this mark, and their sizes.
+fn header_fields(letters: &str) -> Option<Vec<(&str, usize)>> {
+    let format = format_of(mark(letters.as_bytes().try_into().ok()?))?;
+    Some(vec![("n", 1), ("flags", format.flag_bytes), ("Ls", 4), ("La", 4)])
 }
 
 /// The lines of a text without comments and blank lines.

@@ -1,20 +1,22 @@
-//! Refusal 2, and refusal 10 in each of its causes.
+//! Refusals 1 and 2, and refusal 10 in each of its causes.
 
 use reference::file::Header;
+use reference::marks::mark;
 use reference::tables::{Place, ROW};
 
-use super::{exchanged, step, tick, Call, HEADER, LONG};
+use super::{exchanged, step, tick, Call, HEADER, LONG, WIDE};
 use crate::calls::{word, Lent, World, FULL};
 use crate::Script;
 
-/// 2 for each value that a realm cannot have. The realm before has been in use.
+/// 1 for another mark, 2 for each value that a realm cannot have by its mark. The
+/// realm before has been in use.
 pub fn openings(script: &mut Script<World>) {
     let used = exchanged();
     let mut open = |text: &str, header: Header| {
         script.set(&used);
         script.open(text, header);
     };
-    let least = Header { principals: 3, flags: 6, ticket_life: 1, authenticator_life: 1 };
+    let least = Header { flags: 6, ticket_life: 1, authenticator_life: 1, ..HEADER };
     open("open n 3", least);
     open("open n 16", Header { principals: 16, flags: 65534, ..LONG });
     open("open n 0", Header { principals: 0, ..HEADER });
@@ -26,6 +28,14 @@ pub fn openings(script: &mut Script<World>) {
     open("open with a flag above n", Header { flags: 32768, ..HEADER });
     open("open with Ls 0", Header { ticket_life: 0, ..HEADER });
     open("open with La 0", Header { authenticator_life: 0, ..HEADER });
+    open("open with a flag at 16", Header { principals: 16, flags: 1 << 16, ..HEADER });
+    open("open wide, n 17", Header { principals: 17, flags: 1 << 16, ..WIDE });
+    open("open wide, n 32", WIDE);
+    open("open wide, n 32 and every flag", Header { flags: !1, ..WIDE });
+    open("open wide, n 33", Header { principals: 33, ..WIDE });
+    open("open wide, n 31 and a flag at 31", Header { principals: 31, flags: 1 << 31, ..WIDE });
+    open("open with another mark", Header { mark: mark(b"HX"), ..HEADER });
+    open("open with another mark and n 2", Header { mark: 0, principals: 2, ..HEADER });
 }
 
 /// 10 for a header that 2 would refuse: the tables after an exchange with one
@@ -33,12 +43,14 @@ pub fn openings(script: &mut Script<World>) {
 pub fn headers(script: &mut Script<World>) {
     let mut header = |text: &str, header: Header| {
         let mut world = exchanged();
-        world.tables.header = header;
+        world.tables.settings = header.settings();
         script.case(text, &world, tick(5));
     };
     header("header in order", Header { flags: 6, ..HEADER });
     header("header n 2", Header { principals: 2, ..HEADER });
-    header("header n 17", Header { principals: 17, ..HEADER });
+    header("header in order: n 32, every flag", Header { flags: !1, ..WIDE });
+    header("header n 33", Header { principals: 33, ..HEADER });
+    header("header n 31, flag at 31", Header { principals: 31, flags: 1 << 31, ..HEADER });
     header("header flag on the server", Header { flags: 1, ..HEADER });
     header("header flag at n", Header { flags: 8, ..HEADER });
     header("header Ls 0", Header { ticket_life: 0, ..HEADER });

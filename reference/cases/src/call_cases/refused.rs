@@ -1,7 +1,10 @@
 //! The other refusals of a call, on the tables after an exchange.
 
+use reference::file::Header;
+
 use super::{
-    asks, exchanged, forgets, leaks, made, opens, prepared, serves, step, takes, term, tick, Call,
+    asks, exchanged, forgets, leaks, made, opened, opens, prepared, serves, step, takes, term,
+    tick, Call, WIDE,
 };
 use crate::calls::World;
 use crate::Script;
@@ -40,6 +43,13 @@ pub fn out_of_range(script: &mut Script<World>) {
     case("step 8 with b 3 of 3", forgets(3));
     case("step 9 with a run not present", leaks(4));
     case("step 10 with a term not present", asks(19));
+}
+
+/// The last two of 32 principals, and 6 where the last is not there.
+pub fn principals(script: &mut Script<World>) {
+    script.case("step 1 of 30 and 31 of 32", &opened(WIDE), opens(1, 30, 31));
+    let narrower = opened(Header { principals: 31, ..WIDE });
+    script.case("step 1 of 30 and 31 of 31", &narrower, opens(1, 30, 31));
 }
 
 /// 11: the role or the stage. 12: the clock.

@@ -1,10 +1,14 @@
-//! The cells of the table of writes: what change 1 of document 02 makes
+//! The cells of the table of writes: what changes 1 and 2 of document 02 make
 //! possible.
 
+use reference::marks::FORMATS;
+
 use super::faults::{step_fields, term_fields, Field};
+use crate::header_cells::{accepted_hows, refused_hows};
 
 pub fn all() -> Vec<String> {
     let mut cells: Vec<String> = WHOLE.map(String::from).into();
+    cells.extend(mark_cells());
     cells.extend(order_cells());
     cells.extend((1..=6).map(|words| format!("record / refused 3 / cut short to {words} words")));
     for kind in 0..=6 {
@@ -18,6 +22,24 @@ pub fn all() -> Vec<String> {
         for how in ["a is 0", "b is 0", "a equals b"] {
             cells.push(format!("step {step} / refused 6 / {how}"));
         }
+    }
+    cells
+}
+
+/// What depends on the header's mark. A header to be written has 32 flags.
+fn mark_cells() -> Vec<String> {
+    let mut cells = Vec::new();
+    for format in &FORMATS {
+        let letters = format.letters();
+        let written = ["no records", "65,536 bytes", "every flag set"].map(String::from);
+        for how in accepted_hows(format).into_iter().chain(written) {
+            cells.push(format!("write / ok / {letters}, {how}"));
+        }
+        cells.push(format!("write / refused 1 / {letters}, 65,537 bytes"));
+        cells.extend(
+            refused_hows(format, 32).iter().map(|how| format!("write / refused 2 / {how}")),
+        );
+        cells.push(format!("write / refused 21 / {letters}, one byte short"));
     }
     cells
 }
@@ -77,13 +99,8 @@ fn order_cells() -> Vec<String> {
     cells
 }
 
-const WHOLE: [&str; 51] = [
+const WHOLE: [&str; 39] = [
     "write / ok",
-    "write / ok / no records",
-    "write / ok / 65,536 bytes",
-    "write / ok / n is 3",
-    "write / ok / n is 16",
-    "write / ok / every flag set",
     "write / ok / Ls is the highest",
     "write / ok / La is the highest",
     "write / ok / words behind a term",
@@ -93,23 +110,16 @@ const WHOLE: [&str; 51] = [
     "write / ok / one byte more",
     "write / ok / more room",
     "write / refused 1",
-    "write / refused 1 / 65,537 bytes",
     "write / refused 1 / far over",
+    "write / refused 1 / another mark",
+    "write / refused 1 / another mark, a bad header too",
     "write / refused 2",
-    "write / refused 2 / n is 2",
-    "write / refused 2 / n is 17",
-    "write / refused 2 / flag on 0",
-    "write / refused 2 / flag at n",
-    "write / refused 2 / flag above n",
-    "write / refused 2 / Ls is 0",
-    "write / refused 2 / La is 0",
     "write / refused 3",
     "write / refused 3 / 65,536 bytes without the record",
     "write / refused 4",
     "write / refused 5",
     "write / refused 6",
     "write / refused 21",
-    "write / refused 21 / one byte short",
     "write / refused 21 / an empty buffer",
     "write / refused 21 / at the end",
     "write / refused 21 / one past the end",

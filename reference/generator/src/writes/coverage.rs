@@ -3,19 +3,22 @@
 use std::collections::BTreeSet;
 
 use reference::file::{read_header, read_records, Header, MAX_FILE_BYTES};
+use reference::marks::{format_of, letters, Format, MAX_PRINCIPALS};
+use reference::refusal::Refusal;
 use reference::writing::{RECORD_WORDS, STEP_MARK, TERM_MARK};
 
 use super::cells;
 use super::faults::Reading;
 use super::Write;
-use crate::coverage::{header_way, Tally};
+use crate::coverage::Tally;
+use crate::header_cells::{accepted_ways, refused_ways};
 
 /// The table over so many writes, and the complaints about it.
 pub fn report(tally: &Tally) -> (String, Vec<String>) {
     let cells = cells::all();
     let (lines, mut complaints) = tally.table(&cells);
     for cell in tally.counts.keys().filter(|cell| !cells.contains(cell)) {
-        complaints.push(format!("met, though change 1 rules it out: {cell}"));
+        complaints.push(format!("met, though document 02 rules it out: {cell}"));
     }
     (format!("{} writes\n{lines}", tally.inputs), complaints)
 }
@@ -57,13 +60,16 @@ impl Facts {
         let records = write.words.chunks(RECORD_WORDS);
         let readings: Vec<Reading> = records.clone().map(|words| Reading::of(n, words)).collect();
         let whole = records.filter(|words| words.len() == RECORD_WORDS);
-        let needed = 13 + whole.map(|words| length(words[0])).sum::<usize>();
+        let format = format_of(write.header.mark);
+        let needed = format.map_or(0, Format::header_bytes)
+            + whole.map(|words| length(words[0])).sum::<usize>();
         let left = write.buffer.len().checked_sub(write.at);
-        let over = (needed > MAX_FILE_BYTES).then_some(1);
-        let header = write.header.check().is_err().then_some(2);
+        let no_header = (format.is_none() || needed > MAX_FILE_BYTES).then_some(1);
+        let bad_header = write.header.check() == Err(Refusal::BadHeader);
         let record = readings.iter().find_map(Reading::refusal);
         let room = left.is_none_or(|left| left < needed).then_some(21);
-        let applies = [over, header, record, room].into_iter().flatten().collect();
+        let header = bad_header.then_some(2);
+        let applies = [no_header, header, record, room].into_iter().flatten().collect();
         Facts { readings, needed, left, applies }
     }
 }
@@ -94,15 +100,18 @@ fn check_written(write: &Write, facts: &Facts, count: usize, buffer: &[u8]) {
 }
 
 fn written_cells(write: &Write, facts: &Facts, cells: &mut BTreeSet<String>) {
-    let Header { principals: n, flags, ticket_life, authenticator_life } = write.header;
+    let Header { mark, principals: n, flags, ticket_life, authenticator_life } = write.header;
     let left = facts.left.unwrap_or(0);
     let junk = |words: &[u32]| words[0] == TERM_MARK && words[4..] != [0; 3];
-    let hows = [
+    let by_mark = [
         ("no records", write.words.is_empty()),
         ("65,536 bytes", facts.needed == MAX_FILE_BYTES),
-        ("n is 3", n == 3),
-        ("n is 16", n == 16),
-        ("every flag set", u32::from(flags) == (1 << n) - 2),
+        ("every flag set", u64::from(flags) == (1 << n) - 2),
+    ];
+    let under = format!("write / ok / {}, ", letters(mark));
+    cells.extend(accepted_ways(&write.header).iter().map(|how| format!("{under}{how}")));
+    meet(cells, &under, &by_mark);
+    let hows = [
         ("Ls is the highest", ticket_life == u32::MAX),
         ("La is the highest", authenticator_life == u32::MAX),
         ("words behind a term", write.words.chunks(RECORD_WORDS).any(junk)),
@@ -113,7 +122,7 @@ fn written_cells(write: &Write, facts: &Facts, cells: &mut BTreeSet<String>) {
         ("more room", left > facts.needed + 1),
     ];
     cells.insert("write / ok".into());
-    meet(cells, "write / ok", &hows);
+    meet(cells, "write / ok / ", &hows);
     for Reading { subject, fields, .. } in &facts.readings {
         cells.insert(format!("{subject} / written"));
         for field in fields.iter().filter(|field| u64::from(field.value) + 1 == field.first) {
@@ -122,21 +131,32 @@ fn written_cells(write: &Write, facts: &Facts, cells: &mut BTreeSet<String>) {
     }
 }
 
-fn meet(cells: &mut BTreeSet<String>, cell: &str, hows: &[(&str, bool)]) {
+fn meet(cells: &mut BTreeSet<String>, start: &str, hows: &[(&str, bool)]) {
     let met = hows.iter().filter(|(_, is)| *is);
-    cells.extend(met.map(|(how, _)| format!("{cell} / {how}")));
+    cells.extend(met.map(|(how, _)| format!("{start}{how}")));
 }
 
 fn refused_cells(write: &Write, facts: &Facts, number: u8, cells: &mut BTreeSet<String>) {
     let cell = format!("write / refused {number}");
     cells.extend(facts.applies[1..].iter().map(|later| format!("{cell} before {later}")));
+    let start = format!("{cell} / ");
+    let under = format!("{start}{}, ", letters(write.header.mark));
+    let (length, one_over) = (facts.needed, MAX_FILE_BYTES + 1);
     match number {
-        1 => {
-            let one_over = facts.needed == MAX_FILE_BYTES + 1;
-            meet(cells, &cell, &[("65,537 bytes", one_over), ("far over", !one_over)]);
+        1 if format_of(write.header.mark).is_none() => {
+            let bad_too = !write.header.settings().fit(MAX_PRINCIPALS);
+            let hows = [("another mark", true), ("another mark, a bad header too", bad_too)];
+            meet(cells, &start, &hows);
         }
-        2 => cells.extend(header_way(&write.header).map(|how| format!("{cell} / {how}"))),
-        21 => meet(cells, &cell, &room_hows(write, facts)),
+        1 => {
+            meet(cells, &under, &[("65,537 bytes", length == one_over)]);
+            meet(cells, &start, &[("far over", length > one_over)]);
+        }
+        2 => cells.extend(refused_ways(&write.header).iter().map(|how| format!("{start}{how}"))),
+        21 => {
+            meet(cells, &under, &[("one byte short", facts.left == Some(length - 1))]);
+            meet(cells, &start, &room_hows(write, facts));
+        }
         _ => record_cells(facts, number, cells),
     }
     if number == 3 && facts.needed == MAX_FILE_BYTES {
@@ -145,11 +165,10 @@ fn refused_cells(write: &Write, facts: &Facts, number: u8, cells: &mut BTreeSet<
     cells.insert(cell);
 }
 
-fn room_hows(write: &Write, facts: &Facts) -> [(&'static str, bool); 8] {
+fn room_hows(write: &Write, facts: &Facts) -> [(&'static str, bool); 7] {
     let (length, at) = (write.buffer.len(), write.at);
     let sum = at.checked_add(facts.needed);
     [
-        ("one byte short", facts.left == Some(facts.needed - 1)),
         ("an empty buffer", length == 0),
         ("at the end", at == length),
         ("one past the end", at == length + 1),

@@ -2,13 +2,14 @@
 //! ends of the ranges, and long ones.
 
 use reference::file::{read_header, read_records, Header};
-use reference::file::{HEADER_BYTES, MAX_FILE_BYTES, STEP_BYTES, TERM_BYTES};
-use reference::writing::{file, words, RECORD_WORDS, TERM_MARK};
+use reference::file::{MAX_FILE_BYTES, STEP_BYTES, TERM_BYTES};
+use reference::marks::{format_at, Format};
+use reference::writing::{file, header_bytes, words, RECORD_WORDS, TERM_MARK};
 
 use super::records::{any_mark, good, good_step, good_term, spoil, Words};
-use crate::damage::spoilt_header;
+use crate::headers::{any_header, spoilt_header, unknown_mark};
 use crate::random::Random;
-use crate::scenes::{any_damaged_file, any_file, any_header};
+use crate::scenes::{any_damaged_file, any_file};
 
 pub fn any_list(random: &mut Random) -> (Header, Vec<u32>) {
     let (header, mut words) = match random.below(100) {
@@ -25,7 +26,10 @@ pub fn any_list(random: &mut Random) -> (Header, Vec<u32>) {
     if random.one_in(16) {
         break_end(random, &mut words);
     }
-    let header = if random.one_in(8) { spoilt_header(random) } else { header };
+    let mut header = if random.one_in(8) { spoilt_header(random) } else { header };
+    if random.one_in(30) {
+        header.mark = unknown_mark(random);
+    }
     (header, words)
 }
 
@@ -36,7 +40,8 @@ fn of_file(random: &mut Random, make: fn(&mut Random) -> Vec<u8>) -> (Header, Ve
     match read_header(&file) {
         Ok((header, rest)) => (header, words(&read_records(rest).0)),
         Err(_) => {
-            let rest = file.get(HEADER_BYTES..).unwrap_or(&[]);
+            let header_bytes = format_at(&file).map_or(0, Format::header_bytes);
+            let rest = file.get(header_bytes..).unwrap_or(&[]);
             (any_header(random), words(&read_records(rest).0))
         }
     }
@@ -69,7 +74,7 @@ fn long(random: &mut Random) -> (Header, Vec<u32>) {
     let n = u32::from(header.principals);
     let most = MAX_FILE_BYTES;
     let length = random.pick(&[most, most, most, most - 1, most + 1, most + 1, 2 * most]);
-    let mut left = length - HEADER_BYTES;
+    let mut left = length - header_bytes(&header).len();
     let mut records = Vec::new();
     // 7 and 12 have no common factor, so some number of TM records makes the
     // rest a whole number of ST records.

@@ -1,6 +1,7 @@
 //! Records in words that the writer takes, and words that spoil them.
 
 use reference::fields::{uses, Uses, MAX_KIND};
+use reference::marks::FORMATS;
 use reference::writing::{RECORD_WORDS, STEP_MARK, TERM_MARK};
 
 use crate::random::Random;
@@ -75,7 +76,8 @@ pub fn spoil(random: &mut Random, n: u32, words: &mut Words) {
 pub fn any_mark(random: &mut Random) -> u32 {
     let mark = random.pick(&[TERM_MARK, STEP_MARK]);
     let any = random.number() as u32;
-    random.pick(&[0, mark - 1, mark + 1, 0x4844, 0x4d54, mark << 16, mark | 1 << 16, any, u32::MAX])
+    let header = u32::from(random.pick(&FORMATS).mark);
+    random.pick(&[0, mark - 1, mark + 1, header, 0x4d54, mark << 16, mark | 1 << 16, any, u32::MAX])
 }
 
 fn wrong_operation(random: &mut Random) -> u32 {
