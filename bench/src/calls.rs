@@ -7,6 +7,7 @@ use std::hint::black_box;
 
 use lent::{Answer, Entry, Tables, CACHE_PLACES};
 use reference::file::{read_header, read_record, Header, Record, StepRecord, TermRecord};
+use reference::marks::{mark, MAX_PRINCIPALS};
 use reference::realm::{self, Realm};
 use reference::terms::Shape;
 
@@ -14,10 +15,16 @@ use crate::deliveries;
 use crate::exchange::STEP;
 
 /// The longest chain of keys that the intruder has not from the start: session
-/// keys 0 to 63 and the long-term keys of 16 good principals.
-pub const LINKS: usize = 80;
+/// keys 0 to 63 and the long-term keys of 32 good principals.
+pub const LINKS: usize = 96;
 
-const HEADER: Header = Header { principals: 16, flags: 0, ticket_life: 9, authenticator_life: 9 };
+const HEADER: Header = Header {
+    mark: mark(b"HW"),
+    principals: MAX_PRINCIPALS,
+    flags: 0,
+    ticket_life: 9,
+    authenticator_life: 9,
+};
 
 /// The same tables on both sides.
 pub struct Both {
@@ -37,7 +44,7 @@ pub enum Order {
 
 impl Both {
     pub fn new(header: &Header) -> Both {
-        Both { tables: Tables::new(header), realm: Realm::new(*header) }
+        Both { tables: Tables::new(header), realm: Realm::new(header.settings()) }
     }
 
     /// Gives a record to both, which must answer alike.
@@ -276,7 +283,7 @@ fn sweep(realm: &Realm, known: &mut [bool]) -> bool {
 
 fn is_public(realm: &Realm, key: &Shape) -> bool {
     match *key {
-        Shape::LongTermKey(principal) => realm.header.is_bad(principal),
+        Shape::LongTermKey(principal) => realm.settings.is_bad(principal),
         Shape::SessionKey(number) => number >= reference::intruder::FIRST_OF_INTRUDER,
         _ => false,
     }

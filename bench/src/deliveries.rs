@@ -12,14 +12,14 @@ use reference::file::{Header, Record, StepRecord};
 use reference::terms::Shape;
 
 use crate::exchange::{encrypted, opens, spelt, term, tick, walk, Exchange, STEP};
-use crate::walks::fill_terms;
+use crate::walks::{fill_terms, GOOD};
 
 const FIRST_GOOD: u8 = 8;
 
 /// The walk that fills the tables, and deliveries that leave them as they are:
 /// 18, 19, 17, 15 and 16, and step 10 on a term under all keys that came out.
 pub fn filled() -> (Walk, Vec<Record>) {
-    let header = Header { principals: 16, flags: 0x00fe, ticket_life: 12, authenticator_life: 10 };
+    let header = Header { flags: 0x00fe, ticket_life: 12, ..GOOD };
     let mut walk = walk(header);
     let (waiting, late) = late_reply(&mut walk);
     let exchanges: Vec<Exchange> = (0..20).map(|number| exchange(&mut walk, number)).collect();

@@ -6,6 +6,7 @@ use generator::random::Random;
 use generator::walk::Walk;
 use generator::{damage, scenes};
 use reference::file::{Header, Record, StepRecord, TermRecord, MAX_FILE_BYTES};
+use reference::marks::mark;
 use reference::realm::MAX_RUNS;
 use reference::terms::MAX_TERMS;
 use reference::writing::record_bytes;
@@ -19,7 +20,13 @@ pub const DAMAGED_FILES: usize = 8_000;
 const SEED: u64 = 1;
 
 /// All principals are good.
-const GOOD: Header = Header { principals: 16, flags: 0, ticket_life: 100, authenticator_life: 10 };
+pub const GOOD: Header = Header {
+    mark: mark(b"HD"),
+    principals: 16,
+    flags: 0,
+    ticket_life: 100,
+    authenticator_life: 10,
+};
 
 /// The walk's records, then `eighths` eighths of those that a file has room for
 /// after them.

@@ -34,7 +34,7 @@ fn count(answers: &[String], answer: &str) -> usize {
 /// The realm after a file.
 fn realm(file: &[u8]) -> Realm {
     let (header, mut rest) = read_header(file).unwrap();
-    let mut realm = Realm::new(header);
+    let mut realm = Realm::new(header.settings());
     while let Some(read) = read_record(rest) {
         let Ok((record, after)) = read else { break };
         let _ = realm.apply(&record);
@@ -84,7 +84,7 @@ fn the_honest_walk_has_exchanges_of_good_principals() {
     let filling = answers(&walks::honest(0));
     assert!(filling.iter().all(|answer| !answer.contains("refused")));
     let realm = realm(&walks::honest(0));
-    assert_eq!(realm.header.flags, 0);
+    assert_eq!(realm.settings.flags, 0);
     assert_eq!(realm.runs.len(), 64);
     let held = realm.runs.iter().filter(|run| run.held.is_some()).count();
     assert_eq!(held, 63, "all but the second responder");
@@ -145,7 +145,7 @@ fn keys_are_in_the_worst_order() {
         let reply = terms.present().iter().filter(on_wire).find(|message| {
             let Some((body, under)) = message.encrypted() else { return false };
             let Some((first, _)) = body.pair() else { return false };
-            let bad = under.long_term_key().is_some_and(|p| walk.realm.header.is_bad(p));
+            let bad = under.long_term_key().is_some_and(|p| walk.realm.settings.is_bad(p));
             bad && first.session_key() == Some(key)
         });
         assert!(terms.number(reply.unwrap()) < terms.number(lock));
