@@ -23,6 +23,10 @@ class ToBytes(unittest.TestCase):
         ("HD n=3 flags=0 Ls=100 La=10", "48 44 03 00 00 00 00 00 64 00 00 00 0a"),
         ("HD n=3 flags=0x8002 Ls=0xffffffff La=1", "48 44 03 80 02 ff ff ff ff 00 00 00 01"),
         ("HD", "48 44" + " 00" * 11),
+        ("HW n=25 flags=0x01000000 Ls=100 La=10", "48 57 19 01 00 00 00 00 00 00 64 00 00 00 0a"),
+        ("HW n=32 flags=0xfffffffe La=1", "48 57 20 ff ff ff fe 00 00 00 00 00 00 00 01"),
+        ("HW", "48 57" + " 00" * 13),
+        ("HW n=3 flags=2\nST 9", "48 57 03 00 00 00 02" + " 00" * 8 + "53 54 09" + " 00" * 9),
         ("TM 5 L=15 R=16", "54 4d 05 00 0f 00 10"),
         ("TM 1 R=65535 L=1", "54 4d 01 00 01 ff ff"),
         ("TM 255", "54 4d ff 00 00 00 00"),
@@ -41,7 +45,12 @@ class ToBytes(unittest.TestCase):
 
 class Errors(unittest.TestCase):
     CASES = [
-        ("XY 1", "line 1: unknown mark 'XY'"),
+        ("XY 1", "line 1: unknown mark 'XY' (HD, HW, TM, ST or raw)"),
+        ("HX n=3", "line 1: unknown mark 'HX'"),
+        ("HD flags=0x10000", "line 1: flags: 0x10000 does not fit in 2 bytes"),
+        ("HW flags=0x100000000", "line 1: flags: 0x100000000 does not fit in 4 bytes"),
+        ("HW 3", "line 1: '3' is not of the form field=number"),
+        ("HW L=3", "line 1: HW has no field 'L'"),
         ("HD n=3\nhd", "line 2: unknown mark 'hd'"),
         ("\n\nTM", "line 3: TM needs its kind first"),
         ("ST a=1", "line 1: ST needs its step first"),
@@ -75,6 +84,11 @@ class ToText(unittest.TestCase):
     CASES = [
         ("", ""),
         ("48 44 03 00 00 00 00 00 64 00 00 00 0a", "HD n=3 flags=0 Ls=100 La=10\n"),
+        ("48 44 03 00 02 00 00 00 64 00 00 00 0a", "HD n=3 flags=0x0002 Ls=100 La=10\n"),
+        ("48 57 19 01 00 00 00 00 00 00 64 00 00 00 0a", "HW n=25 flags=0x01000000 Ls=100 La=10\n"),
+        ("48 57 19 00 00 00 02 00 00 00 64 00 00 00 0a", "HW n=25 flags=0x00000002 Ls=100 La=10\n"),
+        ("48 57 03 00 00 00 00 00 00 00 64 00 00 00 0a", "HW n=3 flags=0 Ls=100 La=10\n"),
+        ("48 57 03 00 00 00 00 00 00 00 64 00 00 00", "raw 48 57 03 00 00 00 00 00 00 00 64 00 00 00\n"),
         ("53 54 04 00 00 00 00 0b 00 00 00 00", "ST 4 run=0 m=11\n"),
         ("53 54 08 00 00 02 00 00 00 00 00 05", "ST 8 b=2 t=5\n"),
         ("54 4d 00 00 00 00 00", "TM 0 L=0\n"),
@@ -103,12 +117,12 @@ class RoundTrip(unittest.TestCase):
         for _ in range(2000):
             data = b""
             for _ in range(source.randrange(8)):
-                mark = source.choice([b"HD", b"TM", b"ST", b"ST", b"TM"])
-                length = walktext.record_length(mark.decode()) - 2
+                mark = source.choice([*walktext.LAYOUT, "TM", "ST"])
+                length = walktext.record_length(mark) - 2
                 low = source.random() < 0.5
                 body = bytes(source.randrange(12) if low else source.randrange(256) for _ in range(length))
-                data += mark + body
-            self.check(data[: len(data) - source.choice([0, 0, 0, 1, 2, 5, 11])])
+                data += mark.encode() + body
+            self.check(data[: len(data) - source.choice([0, 0, 0, 1, 2, 5, 11, 13])])
 
     def test_a_large_file(self):
         self.check(random.Random(3).randbytes(65537))
