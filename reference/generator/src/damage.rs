@@ -9,7 +9,7 @@ use crate::headers::{any_header, spoilt_header, unknown_mark};
 use crate::random::Random;
 
 /// Up to four damages: a byte changed, taken out or put in, the end cut off, a
-/// stretch doubled, a mark put in the middle, a header's mark at the front.
+/// stretch doubled, a mark put in the middle, another header's mark at the front.
 pub fn damage(random: &mut Random, mut bytes: Vec<u8>) -> Vec<u8> {
     for _ in 0..random.between(1, 4) {
         let at = random.below(bytes.len().max(1)).min(bytes.len());
@@ -28,18 +28,24 @@ pub fn damage(random: &mut Random, mut bytes: Vec<u8>) -> Vec<u8> {
                 bytes.splice(at..at, stretch);
             }
             7 => {
-                let marks = [header_mark(random), *b"TM", *b"ST", *b"XX"];
+                let marks = [header_mark(random, b""), *b"TM", *b"ST", *b"XX"];
                 let mark = random.pick(&marks);
                 bytes.splice(at..(at + 2).min(bytes.len()), mark);
             }
-            _ => drop(bytes.splice(..bytes.len().min(2), header_mark(random))),
+            _ => {
+                let mark = header_mark(random, &bytes);
+                bytes.splice(..bytes.len().min(2), mark);
+            }
         }
     }
     bytes
 }
 
-fn header_mark(random: &mut Random) -> [u8; 2] {
-    random.pick(&FORMATS).mark.to_be_bytes()
+/// A header's mark that is not the one at the front.
+fn header_mark(random: &mut Random, bytes: &[u8]) -> [u8; 2] {
+    let marks = FORMATS.map(|format| format.mark.to_be_bytes());
+    let others: Vec<[u8; 2]> = marks.into_iter().filter(|mark| !bytes.starts_with(mark)).collect();
+    random.pick(&others)
 }
 
 /// A good header, then records whose fields are small or of any value, and at
@@ -85,7 +91,7 @@ pub fn bad_header(random: &mut Random) -> Vec<u8> {
             bytes.truncate(bytes.len() - random.pick(&[1, 2, any, any]));
         }
         1 => {
-            let marks = [header_mark(random), unknown_mark(random).to_be_bytes()];
+            let marks = [header_mark(random, &bytes), unknown_mark(random).to_be_bytes()];
             bytes[..2].copy_from_slice(&random.pick(&marks));
         }
         2 => bytes.resize(random.pick(&[MAX_FILE_BYTES, MAX_FILE_BYTES + 1]), 0),

@@ -6,7 +6,10 @@ use std::collections::HashSet;
 use generator::cells::{main_cells, refusals_of_kind, refusals_of_step};
 use generator::coverage::{cells_met, Tally};
 use generator::edges::edge_cells;
+use generator::headers::{any_header, spoilt_header, unknown_mark};
+use generator::random::Random;
 use generator::{damaged_file, vectors, walk_file};
+use reference::marks::{format_of, FORMATS};
 
 const SEED: u64 = 1;
 
@@ -34,6 +37,22 @@ fn damaged_files_are_damaged() {
     let refused: Vec<u64> = (1..=3).map(|n| tally.count(&format!("file / refused {n}"))).collect();
     assert!(refused.iter().all(|count| *count >= 50), "{refused:?}");
     assert!(refused.iter().sum::<u64>() >= 400, "{refused:?}");
+}
+
+/// Good headers pass by their mark, most spoilt ones are refused, and a mark that
+/// is unknown is in no table.
+#[test]
+fn headers_are_of_every_mark() {
+    let mut random = Random::new(SEED, 0);
+    for format in &FORMATS {
+        let headers: Vec<_> = (0..4_000).map(|_| any_header(&mut random)).collect();
+        let own: Vec<_> = headers.iter().filter(|header| header.mark == format.mark).collect();
+        assert!(own.len() > 1_000 && own.iter().all(|header| header.check().is_ok()));
+        assert!(own.iter().any(|header| header.principals == format.most_principals));
+    }
+    let spoilt = (0..4_000).filter(|_| spoilt_header(&mut random).check().is_err()).count();
+    assert!(spoilt > 3_000, "{spoilt}");
+    assert!((0..1_000).all(|_| format_of(unknown_mark(&mut random)).is_none()));
 }
 
 /// Sums in the generator do not pass their types' ends, whatever the seed.
