@@ -5,20 +5,20 @@ use Prim.Native.Nat.{ℕ, _^_, _<_}
 use mathlib.Core.Bool.{cond}
 use mathlib.Core.List.{List, [], _∷_}
 use lib.Dec.{eqb}
-use Rattle.exchange.specs.declared.header.Flags.{Flags}
 use Rattle.exchange.specs.declared.header.Flags.the-variants.{Bits16, Bits32}
 use Rattle.exchange.specs.declared.header.Format.{Format}
 use Rattle.exchange.specs.declared.header.Header.{Header}
 use Rattle.exchange.specs.declared.header.Lookup.{Lookup}
 use Rattle.exchange.specs.declared.header.Lookup.the-variants.{Found, Missing}
 
+abbrev pub hd : Format
+hd = record { mark = 0x4844; flags = Bits16; most = 16 }
+
+abbrev pub hw : Format
+hw = record { mark = 0x4857; flags = Bits32; most = 32 }
+
 unfoldable pub formats : List Format
-formats =
-    -- HD
-    record { mark = 0x4844; flags = Bits16; most = 16 }
-    -- HW
-    ∷ record { mark = 0x4857; flags = Bits32; most = 32 }
-    ∷ []
+formats = hd ∷ hw ∷ []
 
 -- the first row of a mark
 unfoldable pub rowOf : (mark : ℕ) → List Format → Lookup

@@ -16,7 +16,7 @@ use Rattle.exchange.specs.declared.header.Format.{Format}
 use Rattle.exchange.specs.declared.header.Header.{Header}
 use Rattle.exchange.specs.declared.header.Lookup.{Lookup}
 use Rattle.exchange.specs.declared.header.Lookup.the-variants.{Found, Missing}
-use Rattle.exchange.specs.Formats.{formatOf}
+use Rattle.exchange.specs.Formats.{formats, rowOf, formatOf}
 use Rattle.exchange.specs.Laws.Formats.{most-known}
 use Rattle.traces.specs.Realm as exchange
 use Rattle.traces.specs.Realm.{HeaderPasses}
@@ -132,6 +132,16 @@ module _ (most n flags ls la : ℕ) where
       )
 
 -- ---- the mark too
+
+-- "3 to 16" under HD, "3 to 32" under HW
+module _ (n flags ls la : ℕ) where
+  pub hd-refusal : headerRefusal (record { mark = 0x4844; n = n; flags = flags; ls = ls; la = la }) ≡ cond (headerFits 16 n flags ls la) 0 2
+  unfolding headerRefusal formats rowOf
+  hd-refusal = refl
+
+  pub hw-refusal : headerRefusal (record { mark = 0x4857; n = n; flags = flags; ls = ls; la = la }) ≡ cond (headerFits 32 n flags ls la) 0 2
+  unfolding headerRefusal formats rowOf
+  hw-refusal = refl
 
 module _ (g : Header) where
   pub taken : g .ls < 2 ^ 32 → g .la < 2 ^ 32 → headerRefusal g ≡ 0 → HeaderTaken g

@@ -36,6 +36,11 @@ opened-is g h o = by (headerRefusal g) o
     by zero e = (refl, cc)
     by (suc k) e = let z : _≡_ {A = ℕ} 0 1 = cc in absurd (omega arith)
 
+-- the mark is not kept: realms that are opened with the same values are the same
+pub same-realm : (g : Header) (mark : ℕ) (h i : Realm) → openingOf g ≡ Open h
+    → openingOf (record { mark = mark; n = g .n; flags = g .flags; ls = g .ls; la = g .la }) ≡ Open i → h ≡ i
+same-realm g mark h i o p = sym (opened-is g h o .1) ∙ opened-is _ i p .1
+
 no-terms : (n : ℕ) {ts : List ℕ} → length ts ≡ 512 → Valid n ts 0
 no-terms n size = record { size = size; room = omega arith; terms = record { fine = λ i h. absurd (omega (arith, h)); once = λ i j h. absurd (omega (arith, h)) } }
 

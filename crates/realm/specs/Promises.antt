@@ -1,7 +1,7 @@
 -- What the crate promises beside the contracts of its functions. Reading order of the definitions: Opening (a realm is opened, or
 -- refusal 1 or 2), Input (refusals 4, 5 and 6 of a step), Tables and Check (what refusal 10 looks at).
 -- Assumes nothing.
-use Prim.Native.Nat.{_^_, _<_}
+use Prim.Native.Nat.{ℕ, _^_, _<_}
 use mathlib.Core.Path.{_≡_}
 use mathlib.Core.Bool.{true}
 use mathlib.Core.Logic.{_↔_}
@@ -18,11 +18,18 @@ use Rattle.realm.specs.New as new
 use Rattle.realm.specs.New.{Lends}
 use Rattle.realm.specs.Opening.{headerRefusal, openingOf}
 use Rattle.realm.specs.Tables.{Tables, Together}
+-- 2 reads "3 to 16" under HD and "3 to 32" under HW.
+pub use Rattle.realm.specs.Header.{hd-refusal, hw-refusal}
 
 -- A header of the file's widths opens a realm exactly where its mark is known, n is within the mark's limit, and the exchange's
 -- `HeaderPasses` holds of its values.
 pub header-exact : (g : Header) → g .ls < 2 ^ 32 → g .la < 2 ^ 32 → (headerRefusal g ≡ 0) ↔ HeaderTaken g
 header-exact g hs ha = (taken g hs ha, taken-back g)
+
+-- The realm does not keep its mark: with the same values all open the same.
+pub same-realm : (g : Header) (mark : ℕ) (h i : Realm) → openingOf g ≡ Open h
+    → openingOf (record { mark = mark; n = g .n; flags = g .flags; ls = g .ls; la = g .la }) ≡ Open i → h ≡ i
+same-realm = new.same-realm
 
 -- A step's fields pass exactly where the step is one of ten, unused fields are 0, and used ones are in range.
 pub input-exact : (h : Realm) (s : Step) → (inputRefusal h s ≡ 0) ↔ InputPassed h s

@@ -1,8 +1,8 @@
 -- The header of a file: "HD, n (1 byte), flags (2), Ls (4), La (4)", and HW "laid out as HD but with 32 bits of flags". Refusal 1:
 -- "file over 65,536 bytes, or without a whole HD record first (the empty file too)"; it "accepts either mark".
 -- Assumes nothing.
-use mathlib.Core.Path.{_≡_, refl, ap, subst, _∙_}
-use mathlib.Core.Bool.{true, false, cond}
+use mathlib.Core.Path.{_≡_, refl, sym, ap, subst, _∙_}
+use mathlib.Core.Bool.{cond}
 use mathlib.Core.List.{List}
 use Prim.Native.Nat.{ℕ, _+_, _^_, _<_, _≤_}
 use native.Mathlib.Omega.{arith}
@@ -16,7 +16,7 @@ use Rattle.exchange.specs.declared.header.Format.{Format}
 use Rattle.exchange.specs.declared.header.Header.{Header}
 use Rattle.exchange.specs.declared.header.Lookup.{Lookup}
 use Rattle.exchange.specs.declared.header.Lookup.the-variants.{Found, Missing}
-use Rattle.exchange.specs.Formats.{formatOf, HeaderSized}
+use Rattle.exchange.specs.Formats.{hd, hw, formats, rowOf, formatOf, HeaderSized}
 use Rattle.exchange.specs.Laws.Formats.{format-found}
 use Rattle.records.specs.declared.header.Heading.{Heading}
 use Rattle.records.specs.declared.header.Heading.the-variants.{Read, Refused}
@@ -175,3 +175,18 @@ module _ (bytes : List ℕ) where
 
   pub header-refused : (number : ℕ) → headerOf bytes ≡ Refused number → number ≡ 1
   header-refused number e = found-refused (headerOf bytes) (header-finds bytes) number e
+
+-- ---- by the mark
+
+module _ (bytes : List ℕ) (short : length bytes ≤ maxFile) where
+  -- "HD, n (1 byte), flags (2), Ls (4), La (4)"
+  pub hd-fields : number16 bytes 0 ≡ 0x4844 → 13 ≤ length bytes
+      → headerOf bytes ≡ Read (record { mark = 0x4844; n = byte bytes 2; flags = number16 bytes 3; ls = number32 bytes 5; la = number32 bytes 9 })
+  unfolding formats rowOf
+  hd-fields e h = sym (header-whole hd bytes refl h refl refl refl ∙ by-mark bytes short (Found hd) (ap formatOf e))
+
+  -- "laid out as HD but with 32 bits of flags"
+  pub hw-fields : number16 bytes 0 ≡ 0x4857 → 15 ≤ length bytes
+      → headerOf bytes ≡ Read (record { mark = 0x4857; n = byte bytes 2; flags = number32 bytes 3; ls = number32 bytes 7; la = number32 bytes 11 })
+  unfolding formats rowOf
+  hw-fields e h = sym (header-whole hw bytes refl h refl refl refl ∙ by-mark bytes short (Found hw) (ap formatOf e))

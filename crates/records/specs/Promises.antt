@@ -13,8 +13,8 @@ use Rattle.exchange.specs.declared.header.Header.{Header}
 use Rattle.exchange.specs.Calls.{AllSized}
 use Rattle.records.specs.declared.header.Heading.the-variants as header
 use Rattle.records.specs.declared.record.Record.the-variants as answer
-use Rattle.records.specs.Fields.{Bytes}
-use Rattle.records.specs.Headers.{headerOf, Headed, header-fields, header-refused}
+use Rattle.records.specs.Fields.{Bytes, byte, number16, number32}
+use Rattle.records.specs.Headers.{maxFile, headerOf, Headed, header-fields, header-refused}
 use Rattle.records.specs.Headers as headers
 use Rattle.records.specs.Records.{frontOf, recordAt, front-finds}
 use Rattle.records.specs.Records as records
@@ -29,6 +29,15 @@ module _ (bytes : List ℕ) where
 
   pub header-read : (g : Header) → headerOf bytes ≡ header.Read g → Headed bytes g
   header-read g e = header-fields bytes g e
+
+  -- Under HD the fields are those of document 01, under HW those of change 2 of document 02.
+  pub hd-read : length bytes ≤ maxFile → number16 bytes 0 ≡ 0x4844 → 13 ≤ length bytes
+      → headerOf bytes ≡ header.Read (record { mark = 0x4844; n = byte bytes 2; flags = number16 bytes 3; ls = number32 bytes 5; la = number32 bytes 9 })
+  hd-read = headers.hd-fields bytes
+
+  pub hw-read : length bytes ≤ maxFile → number16 bytes 0 ≡ 0x4857 → 15 ≤ length bytes
+      → headerOf bytes ≡ header.Read (record { mark = 0x4857; n = byte bytes 2; flags = number32 bytes 3; ls = number32 bytes 7; la = number32 bytes 11 })
+  hw-read = headers.hw-fields bytes
 
   pub header-gives-1 : (number : ℕ) → headerOf bytes ≡ header.Refused number → number ≡ 1
   header-gives-1 number e = header-refused bytes number e

@@ -44,7 +44,7 @@ hd n flags ls la = ascii "HD" ++ (n ∷ 0 ∷ flags ∷ 0 ∷ 0 ∷ 0 ∷ ls ∷
 abbrev tm : (kind l r : ℕ) → List ℕ
 tm kind l r = ascii "TM" ++ (kind ∷ 0 ∷ l ∷ 0 ∷ r ∷ [])
 
-abbrev st : (step run a b m t : ℕ) → List ℕ
+abbrev pub st : (step run a b m t : ℕ) → List ℕ
 st step run a b m t = ascii "ST" ++ (step ∷ run ∷ a ∷ b ∷ 0 ∷ m ∷ 0 ∷ 0 ∷ 0 ∷ t ∷ [])
 
 -- "Case F, n 3, flags 0, Ls 100, La 10: ST 1 (a 1, b 2); ST 3 (m 4); ST 4 (run 0, m 11); ST 2 (a 1, b 2); TM 5 (15, 16); ST 5 (run 2,

@@ -6,3 +6,4 @@ pub mod Ways
 pub mod Buffer
 pub mod Traced
 pub mod CaseF
+pub mod Wide

@@ -63,3 +63,23 @@ header-first = refl
 pub cut-short : writeOf (headed 0x4844 3 0) (step ++ 0x544D ∷ []) (replicate 3 7) 4 ≡ writeOutcome (Refused 3) (replicate 3 7)
 unfolding writeOf writeRefusal fileOf headerInBytes recordInBytes recordsOf rawBy ownRefusal termRefusal inputRefusal usesTable inRange headerRefusal headerFits formats rowOf isSet bit placed
 cut-short = refl
+
+-- ---- the marks of change 2 of document 02
+
+-- HW, n 32, flags on principals 16 and 31, no records
+abbrev wide : List ℕ
+wide = 0x48 ∷ 0x57 ∷ 32 ∷ 0x80 ∷ 1 ∷ 0 ∷ 0 ∷ 0 ∷ 0 ∷ 0 ∷ 100 ∷ 0 ∷ 0 ∷ 0 ∷ 10 ∷ []
+
+pub wide-header : writeOf (headed 0x4857 32 0x80010000) [] (replicate 16 7) 0 ≡ writeOutcome (Written 15) (wide ++ (7 ∷ []))
+unfolding writeOf writeRefusal fileOf headerInBytes recordsOf rawBy headerRefusal headerFits formats rowOf isSet bit placed
+wide-header = refl
+
+-- the same under HD, whose limit is 16
+pub too-many : writeOf (headed 0x4844 32 0x80010000) [] (replicate 16 7) 0 ≡ writeOutcome (Refused 2) (replicate 16 7)
+unfolding writeOf writeRefusal fileOf headerInBytes recordsOf rawBy headerRefusal headerFits formats rowOf isSet bit placed
+too-many = refl
+
+-- a mark that is not known, whatever comes with it
+pub no-mark : writeOf (headed 0x4858 2 1) no-step (replicate 3 7) 4 ≡ writeOutcome (Refused 1) (replicate 3 7)
+unfolding writeOf writeRefusal fileOf headerInBytes recordInBytes recordsOf rawBy ownRefusal termRefusal inputRefusal usesTable inRange headerRefusal headerFits formats rowOf isSet bit placed
+no-mark = refl

@@ -12,7 +12,6 @@ use lib.Seq.{drop-cons, drop-length}
 use Rattle.exchange.specs.declared.header.Flags.{Flags}
 use Rattle.exchange.specs.declared.header.Flags.the-variants.{Bits16, Bits32}
 use Rattle.exchange.specs.declared.header.Format.{Format}
-use Rattle.exchange.specs.declared.header.Lookup.{Lookup}
 use Rattle.exchange.specs.declared.header.Lookup.the-variants.{Found, Missing}
 use Rattle.exchange.specs.Formats.{formats, rowOf, formatOf}
 

@@ -2,7 +2,6 @@
 use mathlib.Core.Path.{sym, ap, _∙_}
 use Prim.Native.Nat.{ℕ, _+_}
 use borrow.Author.Needs.{needs}
-use Rattle.exchange.specs.declared.header.Lookup.{Lookup}
 use Rattle.records.specs.Headers.{formatBytes, headerWidth, lives-near}
 use Rattle.records.proofs.header.header_width.Statement.{statement}
 use Rattle.records.proofs.header.header_width.Tie as tie
