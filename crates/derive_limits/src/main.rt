@@ -11,7 +11,7 @@ use words::encode;
 
 // The largest realm, all of whose principals are good.
 fn realm() -> Principals {
-    Principals { n: 16, flags: 0 }
+    Principals { n: 32, flags: 0 }
 }
 
 fn report(question: &[u8], answer: Answer) {
@@ -48,7 +48,7 @@ fn next(count: usize) -> usize {
 
 // The count after one more term was added.
 fn add(terms: &mut [u64], count: usize, term: Term) -> usize {
-    match add_term(terms, count, 16, encode(term)) {
+    match add_term(terms, count, 32, encode(term)) {
         Added::Old(_) => count,
         Added::New(i) => next(i),
         Added::Refused(_) => {
@@ -69,21 +69,21 @@ fn add_session_keys(terms: &mut [u64], start: usize) -> usize {
     count
 }
 
-// The keys of the principals, 0 to 15.
+// The keys of the principals, 0 to 31.
 fn add_long_term_keys(terms: &mut [u64], start: usize) -> usize {
     let mut count = start;
     let mut p: u16 = 0;
-    while p < 16 {
+    while p < 32 {
         count = add(terms, count, Term::LongTermKey(p));
         p += 1;
     }
     count
 }
 
-// Each of the keys, which are terms 1 to 80, under the one that follows it, the last first.
+// Each of the keys, which are terms 1 to 96, under the one that follows it, the last first.
 fn add_links(terms: &mut [u64], start: usize) -> usize {
     let mut count = start;
-    let mut j: u16 = 79;
+    let mut j: u16 = 95;
     while 0 < j {
         count = add(terms, count, Term::Encrypted(j, j + 1));
         j -= 1;
@@ -91,14 +91,14 @@ fn add_links(terms: &mut [u64], start: usize) -> usize {
     count
 }
 
-// The intruder's own session key 64 is term 0, session key i is term i + 1, and the key of principal p is term p + 65. Term 80
-// under term 0 is term 81, and term j under term j + 1 is term 161 - j. Each link that is opened gives the key to the one right
+// The intruder's own session key 64 is term 0, session key i is term i + 1, and the key of principal p is term p + 65. Term 96
+// under term 0 is term 97, and term j under term j + 1 is term 193 - j. Each link that is opened gives the key to the one right
 // behind it, so that a sweep from the last term to the first opens only one.
 fn add_chain(terms: &mut [u64]) -> usize {
     let c1 = add(terms, 0, Term::SessionKey(64));
     let c2 = add_session_keys(terms, c1);
     let c3 = add_long_term_keys(terms, c2);
-    let c4 = add(terms, c3, Term::Encrypted(80, 0));
+    let c4 = add(terms, c3, Term::Encrypted(96, 0));
     add_links(terms, c4)
 }
 
@@ -116,28 +116,28 @@ fn with_range(set: [u64; 8], first: usize, end: usize) -> [u64; 8] {
 
 // The whole chain is on the wire.
 fn whole_chain(terms: &[u64], count: usize) {
-    let wire = with_range([0u64; 8], 81, 161);
-    ask(b"chain: key of principal 15", terms, count, wire, 80);
+    let wire = with_range([0u64; 8], 97, 193);
+    ask(b"chain: key of principal 31", terms, count, wire, 96);
     ask(b"chain: key 63", terms, count, wire, 64);
     ask(b"chain: key 0", terms, count, wire, 1);
 }
 
 // All links but the first, one within, or the last.
 fn broken_chain(terms: &[u64], count: usize) {
-    let no_first = with_range([0u64; 8], 82, 161);
+    let no_first = with_range([0u64; 8], 98, 193);
     ask(
-        b"first link not sent: key of principal 15",
+        b"first link not sent: key of principal 31",
         terms,
         count,
         no_first,
-        80,
+        96,
     );
     ask(b"first link not sent: key 0", terms, count, no_first, 1);
-    let gap = with_range(with_range([0u64; 8], 81, 121), 122, 161);
+    let gap = with_range(with_range([0u64; 8], 97, 153), 154, 193);
     ask(b"{key 39}key 40 not sent: key 40", terms, count, gap, 41);
     ask(b"{key 39}key 40 not sent: key 39", terms, count, gap, 40);
     ask(b"{key 39}key 40 not sent: key 0", terms, count, gap, 1);
-    let no_last = with_range([0u64; 8], 81, 160);
+    let no_last = with_range([0u64; 8], 97, 192);
     ask(b"{key 0}key 1 not sent: key 1", terms, count, no_last, 2);
     ask(b"{key 0}key 1 not sent: key 0", terms, count, no_last, 1);
 }

@@ -6,4 +6,5 @@ pub mod Ways
 pub mod Buffer
 pub mod Traced
 pub mod CaseF
+pub mod HdListing
 pub mod Wide
