@@ -1,4 +1,4 @@
--- `add_links` is safe and ends: the table keeps its length, and the index goes down from 79. Assumes nothing.
+-- `add_links` is safe and ends: the table keeps its length, and the index goes down from 95. Assumes nothing.
 use borrow.Author.Needs.{needs}
 use Prim.Native.Nat.{_≤_}
 use mathlib.Core.Path.{_≡_}
@@ -7,7 +7,7 @@ use Rattle.derive_limits.proofs.add_links.Statement.{statement}
 use Rattle.derive_limits.proofs.add_links.Tie as tie
 
 abbrev Inv-loop : tie.InvT-loop
-Inv-loop terms₀ start count₀ j₀ terms count j = (length terms ≡ length terms₀) × (j ≤ 79)
+Inv-loop terms₀ start count₀ j₀ terms count j = (length terms ≡ length terms₀) × (j ≤ 95)
 
 abbrev μ-loop : tie.MeasureT-loop
 μ-loop terms₀ start count₀ j₀ terms count j = j

@@ -1,4 +1,4 @@
--- `add_long_term_keys` is safe and ends: the table keeps its length, and the index goes up to 16. Assumes nothing.
+-- `add_long_term_keys` is safe and ends: the table keeps its length, and the index goes up to 32. Assumes nothing.
 use borrow.Author.Needs.{needs}
 use Prim.Native.Nat.{_-_}
 use mathlib.Core.Path.{_≡_}
@@ -10,7 +10,7 @@ abbrev Inv-loop : tie.InvT-loop
 Inv-loop terms₀ start count₀ p₀ terms count p = length terms ≡ length terms₀
 
 abbrev μ-loop : tie.MeasureT-loop
-μ-loop terms₀ start count₀ p₀ terms count p = 16 - p
+μ-loop terms₀ start count₀ p₀ terms count p = 32 - p
 
 pub add-long-term-keys-spec : {M : Type 1} → statement M
 add-long-term-keys-spec =
