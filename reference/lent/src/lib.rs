@@ -2,9 +2,9 @@
 //! again and wrapped. `pogandir_call` is here, on tables of this program.
 //!
 //! Nothing checks the declarations against the engine's source: they follow
-//! `crates/exported/src/lib.rt`, `crates/realm/src/header.rt` and
-//! `crates/replay/src/entry.rt`. No function requires anything of what it is
-//! lent.
+//! `crates/exported/src/lib.rt`, `crates/exchange/src/header.rt`,
+//! `crates/realm/src/header.rt` and `crates/replay/src/entry.rt`. No function
+//! requires anything of what it is lent.
 
 mod listing;
 mod writing;

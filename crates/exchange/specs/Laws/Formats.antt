@@ -42,7 +42,7 @@ Each P [] = Unit {0}
 Each P (f ∷ fs) = P f × Each P fs
 
 -- a row that was found has the mark, and what all rows have
-pub found : (P : Format → Type 0) (mark : ℕ) (fs : List Format) (f : Format) → Each P fs → rowOf mark fs ≡ Found f → (f .mark ≡ mark) × P f
+found : (P : Format → Type 0) (mark : ℕ) (fs : List Format) (f : Format) → Each P fs → rowOf mark fs ≡ Found f → (f .mark ≡ mark) × P f
 unfolding rowOf
 found P mark [] f all e = let z : _≡_ {A = ℕ} 0 1 = cc in absurd (omega arith)
 found P mark (g ∷ fs) f all e = by (eqb (g .mark) mark) refl e (found P mark fs f (all .1))
@@ -60,7 +60,7 @@ pub record Sound (f : Format) : Type 0 where
   pub mark-fits : f .mark < 2 ^ 16
   pub flag-each : f .most ≤ bits (f .flags)
 
-pub bits-most : (x : Flags) → bits x ≤ 32
+bits-most : (x : Flags) → bits x ≤ 32
 bits-most Bits16 = omega arith
 bits-most Bits32 = omega arith
 

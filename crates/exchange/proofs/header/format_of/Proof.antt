@@ -3,7 +3,7 @@ use mathlib.Core.Path.{_≡_, refl, _∙_}
 use Prim.Native.Nat.{_≤_, _-_}
 use native.Mathlib.Numerals.{add-one}
 use native.Mathlib.Omega.{arith}
-use lib.ListN.{drop}
+use lib.ListN.{length, drop}
 use borrow.Author.Needs.{needs}
 use Rattle.exchange.specs.Formats.{formats, rowOf, formatOf}
 use Rattle.exchange.specs.Laws.Formats.{row-here, row-later, row-end}
@@ -11,10 +11,10 @@ use Rattle.exchange.proofs.header.format_of.Statement.{statement}
 use Rattle.exchange.proofs.header.format_of.Tie as tie
 
 abbrev Inv-loop : tie.InvT-loop
-Inv-loop mark i₀ i = (i ≤ 2) × (rowOf mark (drop i formats) ≡ formatOf mark)
+Inv-loop mark i₀ i = (i ≤ length formats) × (rowOf mark (drop i formats) ≡ formatOf mark)
 
 abbrev μ-loop : tie.MeasureT-loop
-μ-loop mark i₀ i = 2 - i
+μ-loop mark i₀ i = length formats - i
 
 loop-holds : tie.Need-loop-holds Inv-loop μ-loop
 loop-holds c = (omega arith, refl)
@@ -24,6 +24,10 @@ unfolding formats
 returns c =
     let l = c .before .before .before .before .loop in
     row-here (c .before .before .before .before .before .args .mark) formats (l .i) (search needs) refl (c .if1 .taken) ∙ l .inv .1
+
+loop-less : tie.Need-loop-less Inv-loop μ-loop
+unfolding formats
+loop-less c = search needs
 
 loop-again : tie.Need-loop-again Inv-loop μ-loop
 unfolding formats
@@ -46,6 +50,6 @@ format-of-spec =
     (λ c. search needs)
     returns
     (λ c. search needs)
-    (λ c. search needs)
+    loop-less
     loop-again
     returns-2)
