@@ -1,12 +1,12 @@
 -- Fields of a record as numbers: "Numbers in the file are high byte first." A place past the end reads as 0, which does not
 -- show: a record is read only where all of its bytes are there.
 -- Assumes nothing.
-use mathlib.Core.Path.{_≡_}
+use mathlib.Core.Path.{_≡_, refl, sym, _∙_}
 use mathlib.Core.Bool.{Bool, true, false, _&&_, and-eq-true-iff}
 use mathlib.Core.List.{List}
 use Prim.Native.Nat.{ℕ, _+_, _*_, _^_, _<_, _≤_}
 use native.Mathlib.Omega.{arith}
-use borrow.Author.Tests.{leb-true, le-leb, lt-leb}
+use borrow.Author.Tests.{leb-true, le-leb, lt-leb, eq-eqb, ne-eqb, eqb-true}
 use lib.Dec.{eqb, leb}
 use lib.ListN.{length, getD, drop}
 use lib.Seq.{getD-drop}
@@ -56,3 +56,12 @@ module _ (mark width : ℕ) (bytes : List ℕ) where
   pub begins-by : width ≤ length bytes → {n : ℕ} → n ≡ number16 bytes 0 → eqb n mark ≡ begins mark width bytes
   unfolding begins
   begins-by h e = rw (le-leb width (length bytes) h, e)
+
+  pub begins-here : width ≤ length bytes → number16 bytes 0 ≡ mark → begins mark width bytes ≡ true
+  begins-here h e = sym (begins-by h refl) ∙ eq-eqb (number16 bytes 0) mark e
+
+  pub begins-other : width ≤ length bytes → (number16 bytes 0 ≡ mark → ⊥) → begins mark width bytes ≡ false
+  begins-other h e = sym (begins-by h refl) ∙ ne-eqb (number16 bytes 0) mark e
+
+  pub begins-mark : begins mark width bytes ≡ true → number16 bytes 0 ≡ mark
+  begins-mark h = eqb-true (number16 bytes 0) mark (begins-by (begins-whole h) refl ∙ h)

@@ -1,11 +1,10 @@
 -- "What it wrote is read back as the same records, and a file so read is written back as the same bytes."
 -- Assumes nothing.
 use mathlib.Core.Path.{_≡_, refl, sym, ap, _∙_}
-use mathlib.Core.Bool.{true, false}
+use mathlib.Core.Bool.{true}
 use mathlib.Core.List.{List, [], _∷_, _++_, map}
 use Prim.Native.Nat.{ℕ, zero, suc, _+_, _*_, _/_, _^_, _<_, _≤_}
 use native.Mathlib.Omega.{arith}
-use borrow.Author.Tests.{eq-eqb, ne-eqb, eqb-true}
 use lib.ListN.{length, drop, length-drop}
 use lib.Pow.{pow-mono}
 use lib.Seq.{drop-cons, drop-append-seam}
@@ -22,7 +21,7 @@ use Rattle.realm.specs.Header.{HeaderTaken, flags-small}
 use Rattle.realm.specs.Opening.{headerRefusal}
 use Rattle.records.specs.declared.header.Heading.{Heading}
 use Rattle.records.specs.declared.header.Heading.the-variants as header
-use Rattle.records.specs.Fields.{Bytes, byte, number16, number32, begins, begins-by, begins-whole, drop-bytes}
+use Rattle.records.specs.Fields.{Bytes, byte, number16, number32, begins, begins-here, begins-other, begins-mark, begins-whole, drop-bytes}
 use Rattle.records.specs.Headers.{maxFile, livesAt, formatBytes, headerWidth, fieldsOf, headerOf, width-is}
 use Rattle.records.specs.Headers as headers
 use Rattle.records.specs.Records.{termMark, stepMark, termBytes, stepBytes, termCall, stepCall, Front, whole, frontOf, front-term, front-step, Finds, at-end, at-term, at-step, at-fault, front-finds}
@@ -62,12 +61,6 @@ back8 x h = omega arith
 -- what a whole record at the front is to a reader
 first-call : (bytes : List ℕ) (c : Call) (width : ℕ) → whole c width ≡ frontOf bytes → reading.callsOf bytes ≡ then c (reading.callsOf (drop width bytes))
 first-call bytes c width e = calls-are bytes ∙ ap (λ (f : Front). onward f (λ w. reading.callsOf (drop w bytes))) (sym e)
-
-begins-here : (mark width : ℕ) (bytes : List ℕ) → width ≤ length bytes → number16 bytes 0 ≡ mark → begins mark width bytes ≡ true
-begins-here mark width bytes h e = sym (begins-by mark width bytes h refl) ∙ eq-eqb (number16 bytes 0) mark e
-
-begins-other : (mark width : ℕ) (bytes : List ℕ) → width ≤ length bytes → (number16 bytes 0 ≡ mark → ⊥) → begins mark width bytes ≡ false
-begins-other mark width bytes h e = sym (begins-by mark width bytes h refl) ∙ ne-eqb (number16 bytes 0) mark e
 
 term-back : (kind l r : ℕ) (rest : List ℕ) → RawSized (Term kind l r)
     → reading.callsOf (recordInBytes (Term kind l r) ++ rest) ≡ then (call.Term kind l r) (reading.callsOf rest)
@@ -192,9 +185,6 @@ spanned bytes at (suc k) h =
   where
     on : (at k : ℕ) → at + suc k ≡ suc at + k
     on at k = omega arith
-
-begins-mark : (mark width : ℕ) (bytes : List ℕ) → begins mark width bytes ≡ true → number16 bytes 0 ≡ mark
-begins-mark mark width bytes h = eqb-true (number16 bytes 0) mark (begins-by mark width bytes (begins-whole mark width bytes h) refl ∙ h)
 
 -- the parts of a header
 parts : {m m′ f f′ s s′ a a′ : List ℕ} (n : ℕ) → m ≡ m′ → f ≡ f′ → s ≡ s′ → a ≡ a′ → (m ++ n ∷ f) ++ s ++ a ≡ (m′ ++ n ∷ f′) ++ s′ ++ a′
