@@ -130,7 +130,7 @@ lives-near Bits32 = (omega arith, omega arith)
 
 small-flags : {bytes : List ℕ} → Bytes bytes → (x : Flags) → flagsIn x bytes < 2 ^ 32
 small-flags b Bits16 = omega (arith, small16 b 3)
-small-flags b Bits32 = small32 b 3
+small-flags b Bits32 = omega (arith, small16 b 3, small32 b 3)
 
 -- the width of a header, by what its mark says
 pub width-is : (mark : ℕ) (l : Lookup) → formatOf mark ≡ l → headerWidth mark ≡ formatBytes l
