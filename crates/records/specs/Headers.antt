@@ -179,14 +179,18 @@ module _ (bytes : List ℕ) where
 -- ---- by the mark
 
 module _ (bytes : List ℕ) (short : length bytes ≤ maxFile) where
+  -- a header that is whole has the fields of its mark's row
+  pub fields-by : (f : Format) → formatOf (number16 bytes 0) ≡ Found f → formatBytes (Found f) ≤ length bytes → headerOf bytes ≡ Read (fieldsOf f bytes)
+  fields-by f e h = sym (header-whole f bytes refl h refl refl refl ∙ by-mark bytes short (Found f) e)
+
   -- "HD, n (1 byte), flags (2), Ls (4), La (4)"
   pub hd-fields : number16 bytes 0 ≡ 0x4844 → 13 ≤ length bytes
       → headerOf bytes ≡ Read (record { mark = 0x4844; n = byte bytes 2; flags = number16 bytes 3; ls = number32 bytes 5; la = number32 bytes 9 })
   unfolding formats rowOf
-  hd-fields e h = sym (header-whole hd bytes refl h refl refl refl ∙ by-mark bytes short (Found hd) (ap formatOf e))
+  hd-fields e h = fields-by hd (ap formatOf e) h
 
   -- "laid out as HD but with 32 bits of flags"
   pub hw-fields : number16 bytes 0 ≡ 0x4857 → 15 ≤ length bytes
       → headerOf bytes ≡ Read (record { mark = 0x4857; n = byte bytes 2; flags = number32 bytes 3; ls = number32 bytes 7; la = number32 bytes 11 })
   unfolding formats rowOf
-  hw-fields e h = sym (header-whole hw bytes refl h refl refl refl ∙ by-mark bytes short (Found hw) (ap formatOf e))
+  hw-fields e h = fields-by hw (ap formatOf e) h

@@ -117,8 +117,7 @@ module _ (g : Header) (raws : List RawRecord) (t : HeaderTaken g) where
 
   header-back : g .ls < 2 ^ 32 → g .la < 2 ^ 32 → length (fileOf g raws) ≤ maxFile → headerOf (fileOf g raws) ≡ header.Read g
   header-back hs ha short =
-      sym (headers.by-mark (fileOf g raws) short (Found f) (ap formatOf mark-first ∙ t .known))
-      ∙ sym (headers.header-whole f (fileOf g raws) refl (omega (arith, file-long)) refl refl refl)
+      headers.fields-by (fileOf g raws) short f (ap formatOf mark-first ∙ t .known) (omega (arith, file-long))
       ∙ ap header.Read (ap (fieldsOf f) laid ∙ fields-back (f .flags) (f .mark) (f .most) g (recordsInBytes raws) (row .0) flags-fit hs ha)
 
   calls-back : AllRawSized raws → reading.callsOf (drop (headerWidth (g .mark)) (fileOf g raws)) ≡ record { calls = callsFrom raws; ending = ended }
