@@ -15,8 +15,8 @@ use Rattle.decisions.specs.declared.Keeping.the-variants.{Same, Remember
 use Rattle.decisions.specs.declared.Sends.{Sends}
 use Rattle.decisions.specs.declared.Sends.the-variants.{Request, Issue, Authenticator, Confirmation, Key}
 use Rattle.decisions.specs.declared.Sends.the-variants as sending
-use Rattle.decisions.specs.declared.Names.{Names}
-use Rattle.decisions.specs.declared.Names.the-variants.{Run, Nobody}
+use Rattle.exchange.specs.declared.call.Names.{Names}
+use Rattle.exchange.specs.declared.call.Names.the-variants.{Run, Nobody}
 use Rattle.decisions.specs.declared.Effect.{Effect}
 
 -- the messages, in the order of sending

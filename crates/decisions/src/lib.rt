@@ -1,5 +1,6 @@
 // What a step comes to, by value: what the tables do, or the number of the refusal. A decision is made where its values are known
 // and carries all that is written, so whoever writes it goes through no steps.
+use exchange::call::Names;
 use exchange::run::Row;
 use replay::entry::Entry;
 
@@ -42,12 +43,6 @@ pub enum Sends {
         k: u16,
     },
     Key(u16),
-}
-
-// The run that the answer names.
-pub enum Names {
-    Run(u8),
-    Nobody,
 }
 
 pub struct Effect {

@@ -1,18 +1,16 @@
 -- What a call comes to, and an effect written: the answer, and every table afterwards, place by place. Nothing is refused here.
 -- Assumes nothing.
-use Prim.Native.Nat.{ℕ}
+use Prim.Native.Nat.{ℕ, _-_}
 use mathlib.Core.List.{List}
 use lib.ListN.{length}
 use Rattle.terms.specs.Number.{termsOf}
 use Rattle.messages.specs.Lent.{over}
 use Rattle.sending.specs.Send.{enteredAll, markedAll}
 use Rattle.exchange.specs.declared.call.Answer.{Answer}
-use Rattle.exchange.specs.declared.call.Answer.the-variants.{OkRun, Ok, Refused}
+use Rattle.exchange.specs.declared.call.Answer.the-variants.{Ok, Refused}
 use Rattle.realm.specs.declared.header.Realm.{Realm}
 use Rattle.realm.specs.Tables.{Tables, tables}
 use Rattle.decisions.specs.declared.Effect.{Effect}
-use Rattle.decisions.specs.declared.Names.{Names}
-use Rattle.decisions.specs.declared.Names.the-variants.{Run, Nobody}
 use Rattle.decisions.specs.Effects.{messagesOf}
 use Rattle.effects.specs.declared.apply.After.{After}
 use Rattle.effects.specs.Row.{changed, runCount}
@@ -34,22 +32,17 @@ refuse t number = record { answer = Refused number; tables = t }
 
 -- ---- an effect
 
--- "`ok` and the run opened by steps 1 to 3 or named in steps 4, 5, 6 and 9, else `-`"
-abbrev pub answerOf : Names → Answer
-answerOf (Run r) = OkRun r
-answerOf Nobody = Ok
-
 abbrev pub realmAfter : Realm → (clock terms runs entries : ℕ) → Realm
 realmAfter h clock terms runs entries =
     record { n = h .n; flags = h .flags; ls = h .ls; la = h .la; clock = clock; terms = terms; runs = runs; entries = entries }
 
--- with these terms and this wire
+-- with these terms and this wire: "an accepted ST line ends in `+` and the number of terms added"
 abbrev pub appliedWith : Tables → Effect → (count : ℕ) (ts ws : List ℕ) → Outcome
 appliedWith t x count ts ws =
     let h = t .realm in
     let c = cacheOf h (t .cache) (x .keeping) in
     record {
-      answer = answerOf (x .names);
+      answer = Ok (x .names) (count - h .terms);
       tables = tables (realmAfter h (x .clock) count (runCount (h .runs) (x .change)) (c .count)) ts (changed (h .runs) (x .change) (t .runs)) ws (c .places);
     }
 

@@ -2,7 +2,7 @@
 -- terms and for all steps; the code's promises are equations with it.
 -- Assumes nothing.
 use mathlib.Core.Bool.{cond}
-use Prim.Native.Nat.{ℕ}
+use Prim.Native.Nat.{ℕ, zero, suc, _-_}
 use mathlib.Core.List.{List}
 use Rattle.words.specs.Word.{packed}
 use Rattle.terms.specs.Add.{addOf}
@@ -26,10 +26,11 @@ abbrev pub withCount : Realm → ℕ → Realm
 withCount h terms =
     record { n = h .n; flags = h .flags; ls = h .ls; la = h .la; clock = h .clock; terms = terms; runs = h .runs; entries = h .entries }
 
--- the paper's number for each case of the answer
-abbrev pub numbered : terms.TermAnswer → Answer
-numbered (terms.number i) = answers.Number i
-numbered (terms.refused k) = answers.Refused k
+-- "Adding a term must tell whether the term is new or was present": whether the table has grown
+abbrev pub numbered : terms.TermAnswer → (grown : ℕ) → Answer
+numbered (terms.number i) zero = answers.Old i
+numbered (terms.number i) (suc grown) = answers.New i
+numbered (terms.refused k) grown = answers.Refused k
 
 -- the answer, the realm and the table of terms after TM, which reads and writes nothing else
 pub record Adding : Type 0 where
@@ -38,7 +39,7 @@ pub record Adding : Type 0 where
   pub table : List ℕ
 
 abbrev pub adding : Realm → terms.TermOutcome → Adding
-adding h o = record { answer = numbered (o .answer); realm = withCount h (o .count); table = o .table }
+adding h o = record { answer = numbered (o .answer) (o .count - h .terms); realm = withCount h (o .count); table = o .table }
 
 abbrev pub withAdding : Tables → Adding → Outcome
 withAdding t o = record { answer = o .answer; tables = tables (o .realm) (o .table) (t .runs) (t .wire) (t .cache) }

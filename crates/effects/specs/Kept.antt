@@ -1,13 +1,13 @@
 -- "A refusal is its number alone. State, wire, cache and terms stay unchanged", of every call.
 -- Assumes nothing.
-use Prim.Native.Nat.{ℕ}
+use Prim.Native.Nat.{ℕ, zero, suc, _-_}
 use mathlib.Core.Path.{_≡_, refl, sym, ap, ap₂, _∙_}
 use mathlib.Core.Bool.{true}
 use mathlib.Core.List.{List}
 use mathlib.Core.Logic.{_↔_}
 use Rattle.terms.specs.Add.{addOf, add-elim}
 use Rattle.terms.specs.Choice.{no-true}
-use Rattle.terms.specs.Outcome.{TermOutcome}
+use Rattle.terms.specs.Outcome.{TermOutcome, number}
 use Rattle.words.specs.Word.{packed}
 use Rattle.exchange.specs.declared.call.Answer.{Answer}
 use Rattle.exchange.specs.declared.call.Answer.the-variants.{Refused}
@@ -16,41 +16,40 @@ use Rattle.exchange.specs.declared.call.Call.the-variants as calls
 use Rattle.exchange.specs.Calls.{accepts}
 use Rattle.realm.specs.declared.input.Step.{Step}
 use Rattle.realm.specs.Tables.{Tables, tables}
-use Rattle.decisions.specs.declared.Names.{Names}
-use Rattle.decisions.specs.declared.Names.the-variants as names
 use Rattle.decisions.specs.declared.Verdict.{Verdict}
 use Rattle.decisions.specs.declared.Verdict.the-variants as verdicts
 use Rattle.decisions.specs.Decision.{decision}
-use Rattle.effects.specs.Apply.{answerOf, applied}
+use Rattle.effects.specs.Apply.{applied}
 use Rattle.effects.specs.Call.{numbered, withCount, byVerdict, stepped, called}
 
 -- what accepts is no refusal
 pub never : {A : Type 0} (a : Answer) {k : ℕ} → accepts a ≡ true → a ≡ Refused k → A
 never a t e = no-true (sym (ap accepts e) ∙ t)
 
-pub ok : (who : Names) → accepts (answerOf who) ≡ true
-ok (names.Run r) = refl
-ok names.Nobody = refl
+-- a term's number accepts, whether the table has grown or not
+pub number-accepts : (i grown : ℕ) → accepts (numbered (number i) grown) ≡ true
+number-accepts i zero = refl
+number-accepts i (suc grown) = refl
 
 -- ---- TM
 
-add-kept : (n : ℕ) (ts : List ℕ) (count w : ℕ) {k : ℕ} → let o = addOf n ts count w in numbered (o .answer) ≡ Refused k → (o .count ≡ count) × (o .table ≡ ts)
+add-kept : (n : ℕ) (ts : List ℕ) (count w : ℕ) {k : ℕ} → let o = addOf n ts count w in numbered (o .answer) (o .count - count) ≡ Refused k → (o .count ≡ count) × (o .table ≡ ts)
 add-kept n ts count w {k} =
-    add-elim (λ (o : TermOutcome). numbered (o .answer) ≡ Refused k → (o .count ≡ count) × (o .table ≡ ts)) n ts count w (λ e. (refl, refl)) (λ e. (refl, refl))
-    (λ _ i _ e. never _ refl e) (λ _ _ _ e. never _ refl e)
+    add-elim (λ (o : TermOutcome). numbered (o .answer) (o .count - count) ≡ Refused k → (o .count ≡ count) × (o .table ≡ ts)) n ts count w (λ e. (refl, refl)) (λ e. (refl, refl))
+    (λ _ i _ e. never _ (number-accepts i (count - count)) e) (λ _ _ _ e. never _ (number-accepts count (suc count - count)) e)
 
 -- ---- any call
 
 module _ (t : Tables) {k : ℕ} where
   by-verdict : (v : Verdict) → byVerdict t v .answer ≡ Refused k → byVerdict t v .tables ≡ t
   unfolding applied
-  by-verdict (verdicts.Takes x) q = never (answerOf (x .names)) (ok (x .names)) q
+  by-verdict (verdicts.Takes x) q = never (applied t x .answer) refl q
   by-verdict (verdicts.Refused n) q = refl
 
   -- a step's refusal is its decision's
   same-number : (v : Verdict) → byVerdict t v .answer ≡ Refused k → v ≡ verdicts.Refused k
   unfolding applied
-  same-number (verdicts.Takes x) q = never (answerOf (x .names)) (ok (x .names)) q
+  same-number (verdicts.Takes x) q = never (applied t x .answer) refl q
   same-number (verdicts.Refused n) q = cc
 
   pub step-refused : (s : Step) → (stepped t s .answer ≡ Refused k) ↔ (decision t s ≡ verdicts.Refused k)

@@ -20,7 +20,7 @@ use Rattle.realm.specs.Tables.{Tables}
 use Rattle.decisions.specs.Promises.{step-refusals}
 use Rattle.decisions.specs.Refusals.{allOf}
 use Rattle.effects.specs.Call.{numbered, called}
-use Rattle.effects.specs.Kept.{never, step-refused}
+use Rattle.effects.specs.Kept.{never, number-accepts, step-refused}
 
 -- ---- TM
 
@@ -32,9 +32,9 @@ ten (terms.refused k) = eqb k 10
 same : {k : ℕ} → Refused k ≡ Refused 10 → k ≡ 10
 same e = cc
 
-told : (a : terms.TermAnswer) → ten a ≡ false → ¬ (numbered a ≡ Refused 10)
-told (terms.number i) e q = never (numbered (terms.number i)) refl q
-told (terms.refused k) e q = eqb-false k 10 e (same q)
+told : (a : terms.TermAnswer) (grown : ℕ) → ten a ≡ false → ¬ (numbered a grown ≡ Refused 10)
+told (terms.number i) grown e q = never (numbered (terms.number i) grown) (number-accepts i grown) q
+told (terms.refused k) grown e q = eqb-false k 10 e (same q)
 
 -- 4, 5 or 6
 of-word : (n : ℕ) (ts : List ℕ) (at w : ℕ) → eqb (refusalOf n ts at w) 10 ≡ false
@@ -78,7 +78,7 @@ no-ten (suc (suc (suc (suc (suc (suc (suc (suc (suc (suc (suc step))))))))))) = 
 
 pub never-10 : (t : Tables) (c : Call) → ¬ (called t c .answer ≡ Refused 10)
 unfolding called
-never-10 t (calls.Term kind l r) q = told (addOf (t .realm .n) (t .terms) (t .realm .terms) (packed kind l r) .answer) (of-term (t .realm .n) (t .terms) (t .realm .terms) (packed kind l r)) q
+never-10 t (calls.Term kind l r) q = told (addOf (t .realm .n) (t .terms) (t .realm .terms) (packed kind l r) .answer) _ (of-term (t .realm .n) (t .terms) (t .realm .terms) (packed kind l r)) q
 never-10 t (calls.Step step run a b m time) q =
     let s : Step = record { step = step; run = run; a = a; b = b; m = m; t = time } in
     absent 10 (allOf step) (no-ten step) (step-refusals t s (step-refused t s .0 q))

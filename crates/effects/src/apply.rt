@@ -2,7 +2,6 @@
 use crate::cache::cache_after;
 use crate::row::write_row;
 use decisions::Effect;
-use decisions::Names;
 use exchange::call::Answer;
 use realm::header::Realm;
 use replay::entry::Entry;
@@ -11,23 +10,13 @@ use sending::write_messages;
 ghost use mathlib.Core.Path.{_≡_};
 ghost use Rattle.realm.specs.Tables.{tables, Together};
 ghost use Rattle.deciding.specs.Decided.{Writable};
-ghost use Rattle.effects.specs.Apply.{answerOf, outcome, applied};
+ghost use Rattle.effects.specs.Apply.{outcome, applied};
 
 // A realm and its cache after a call, and the answer.
 pub struct After {
     pub realm: Realm,
     pub cache: [Entry; 16],
     pub answer: Answer,
-}
-
-// `ok` and the run opened or named, or `ok`.
-fn answer_of(names: Names) -> Answer
-    ensures { λ x. ⌜ x ≡ answerOf names ⌝ }
-{
-    match names {
-        Names::Run(r) => Answer::OkRun(r),
-        Names::Nobody => Answer::Ok,
-    }
 }
 
 // Writes what an effect says.
@@ -64,6 +53,9 @@ pub fn apply(
             entries: swept.count,
         },
         cache: places,
-        answer: answer_of(names),
+        answer: Answer::Ok {
+            names,
+            added: plan.count as u16,
+        },
     }
 }

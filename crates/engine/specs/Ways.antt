@@ -1,6 +1,6 @@
 -- The ways out of a call, over plain variables: the code's proofs cite them.
 -- Assumes nothing.
-use Prim.Native.Nat.{ℕ, suc, _+_, _<_}
+use Prim.Native.Nat.{ℕ, suc, _+_, _-_, _<_}
 use native.Mathlib.Numerals.{add-one}
 use native.Mathlib.Omega.{arith}
 use mathlib.Core.Path.{_≡_, refl, sym, ap, subst}
@@ -10,8 +10,10 @@ use Rattle.words.specs.Word.{packed}
 use Rattle.terms.specs.Add.{addOf, AddsTerm, adds}
 use Rattle.terms.specs.Valid.{Valid}
 use Rattle.terms.specs.Outcome as terms
+use Rattle.exchange.specs.declared.call.Answer.the-variants as answers
 use Rattle.exchange.specs.declared.call.Call.{Call}
 use Rattle.exchange.specs.declared.call.Call.the-variants as calls
+use Rattle.realm.specs.declared.header.Realm.{Realm}
 use Rattle.realm.specs.declared.input.Step.{Step}
 use Rattle.realm.specs.Check.{together}
 use Rattle.realm.specs.Tables.{Tables}
@@ -22,7 +24,7 @@ use Rattle.decisions.specs.Decision.{decision}
 use Rattle.sending.specs.declared.Prepared.{Prepared}
 use Rattle.deciding.specs.Decided.{Writable, WritableBy}
 use Rattle.effects.specs.Apply.{refuse, applied}
-use Rattle.effects.specs.Call.{Adding, adding, withAdding, byVerdict, stepped, called, checked}
+use Rattle.effects.specs.Call.{withCount, Adding, adding, withAdding, byVerdict, stepped, called, checked}
 
 -- ---- ST
 
@@ -67,6 +69,10 @@ pub step-called : (t : Tables) (step run a b m time : ℕ) → stepped t (record
 unfolding called
 step-called t step run a b m time = refl
 
--- one term more, as the code counts
-pub one-more : (i count : ℕ) (ts : List ℕ) → terms.accept i (count + 1) ts ≡ terms.accept i (suc count) ts
-one-more i count ts = ap (λ (k : ℕ). terms.accept i k ts) (add-one count)
+-- a table that has not grown says old, and with one term more, as the code counts, new
+module _ (h : Realm) (i : ℕ) (ts : List ℕ) where
+  pub old-told : record { answer = answers.Old i; realm = h; table = ts } ≡ adding h (terms.accept i (h .terms) ts)
+  old-told = let same : h .terms - h .terms ≡ 0 = omega arith in rw same
+
+  pub new-told : record { answer = answers.New i; realm = withCount h (h .terms + 1); table = ts } ≡ adding h (terms.accept i (suc (h .terms)) ts)
+  new-told = let more : suc (h .terms) - h .terms ≡ 1 = omega arith in rw (more, add-one (h .terms))

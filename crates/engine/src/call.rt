@@ -35,14 +35,14 @@ fn add_term(h: Realm, terms: &mut [u64], kind: u8, l: u16, r: u16) -> Termed
     match add(terms, count, h.n as u16, pack(kind, l, r)) {
         Added::Old(i) => Termed {
             realm: h,
-            answer: Answer::Number(i as u16),
+            answer: Answer::Old(i as u16),
         },
         Added::New(i) => {
             let mut next = h;
             next.terms = count + 1;
             Termed {
                 realm: next,
-                answer: Answer::Number(i as u16),
+                answer: Answer::New(i as u16),
             }
         }
         Added::Refused(number) => Termed {

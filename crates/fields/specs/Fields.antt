@@ -7,9 +7,11 @@ use Prim.Native.Nat.{ℕ, zero, suc, _+_, _/_, _%_}
 use Prim.Native.String.{String, [] as []ₛ, _∷_ as _∷ₛ_}
 use lib.Dec.{ltb}
 use Rattle.exchange.specs.declared.call.Answer.{Answer}
-use Rattle.exchange.specs.declared.call.Answer.the-variants.{Number, OkRun, Ok, Refused}
+use Rattle.exchange.specs.declared.call.Answer.the-variants.{Old, New, Ok, Refused}
 use Rattle.exchange.specs.declared.call.Call.{Call}
 use Rattle.exchange.specs.declared.call.Call.the-variants.{Term, Step}
+use Rattle.exchange.specs.declared.call.Names.{Names}
+use Rattle.exchange.specs.declared.call.Names.the-variants.{Run, Nobody}
 
 -- ---- texts and numbers
 
@@ -38,10 +40,15 @@ unfoldable pub markText : Call → List ℕ
 markText (Term kind l r) = ascii " TM "
 markText (Step step run a b m t) = ascii " ST "
 
--- "for TM the term number, for ST `ok` and the run opened by steps 1 to 3 or named in steps 4, 5, 6 and 9, else `-`.
--- A refusal prints `refused` and the number"
+-- "for ST `ok` and the run opened by steps 1 to 3 or named in steps 4, 5, 6 and 9, else `-`"
+unfoldable pub namesText : Names → List ℕ
+namesText (Run r) = field "ok " r
+namesText Nobody = ascii "ok -"
+
+-- "for TM the term number", "A refusal prints `refused` and the number"; "A TM line ends in `new` or `old`; an accepted ST line
+-- ends in `+` and the number of terms added"
 unfoldable pub answerText : Answer → List ℕ
-answerText (Number i) = decimal i
-answerText (OkRun r) = field "ok " r
-answerText Ok = ascii "ok -"
+answerText (Old i) = decimal i ++ ascii " old"
+answerText (New i) = decimal i ++ ascii " new"
+answerText (Ok who k) = namesText who ++ field " +" k
 answerText (Refused k) = field "refused " k

@@ -6,17 +6,23 @@ use Prim.Native.String.{String}
 use native.Mathlib.Omega.{arith}
 use lib.ListN.{length, length-append}
 use Rattle.exchange.specs.declared.call.Answer.{Answer}
-use Rattle.exchange.specs.declared.call.Answer.the-variants.{Number, OkRun, Ok, Refused}
+use Rattle.exchange.specs.declared.call.Answer.the-variants.{Old, New, Ok, Refused}
 use Rattle.exchange.specs.declared.call.Call.{Call}
 use Rattle.exchange.specs.declared.call.Call.the-variants.{Term, Step}
+use Rattle.exchange.specs.declared.call.Names.{Names}
+use Rattle.exchange.specs.declared.call.Names.the-variants.{Run, Nobody}
 use Rattle.fields.specs.Decimal.{decimal-short}
-use Rattle.fields.specs.Fields.{ascii, decimal, field, markText, answerText}
+use Rattle.fields.specs.Fields.{ascii, decimal, field, markText, namesText, answerText}
 
--- an answer's numbers have the widths of the code
+-- the numbers of a run and of an answer have the widths of the code
+abbrev pub NarrowNames : Names → Type 0
+NarrowNames (Run r) = r < 256
+NarrowNames Nobody = Unit {0}
+
 abbrev pub Narrow : Answer → Type 0
-Narrow (Number i) = i < 65536
-Narrow (OkRun r) = r < 256
-Narrow Ok = Unit {0}
+Narrow (Old i) = i < 65536
+Narrow (New i) = i < 65536
+Narrow (Ok who k) = NarrowNames who × (k < 65536)
 Narrow (Refused k) = k < 256
 
 pub field-length : (text : String) (n : ℕ) → length (field text n) ≡ length (ascii text) + length (decimal n)
@@ -27,9 +33,17 @@ unfolding markText
 mark-length (Term kind l r) = refl
 mark-length (Step step run a b m t) = refl
 
-pub answer-short : (answer : Answer) → Narrow answer → length (answerText answer) ≤ 11
+pub names-short : (who : Names) → NarrowNames who → length (namesText who) ≤ 6
+unfolding namesText
+names-short (Run r) h = omega (arith, field-length "ok " r, decimal-short r 2 (omega (arith, h)))
+names-short Nobody h = omega arith
+
+pub added-short : (k : ℕ) → k < 65536 → length (field " +" k) ≤ 7
+added-short k h = omega (arith, field-length " +" k, decimal-short k 4 (omega (arith, h)))
+
+pub answer-short : (answer : Answer) → Narrow answer → length (answerText answer) ≤ 13
 unfolding answerText
-answer-short (Number i) h = omega (arith, decimal-short i 4 (omega (arith, h)))
-answer-short (OkRun r) h = omega (arith, field-length "ok " r, decimal-short r 2 (omega (arith, h)))
-answer-short Ok h = omega arith
+answer-short (Old i) h = omega (arith, length-append (decimal i) (ascii " old"), decimal-short i 4 (omega (arith, h)))
+answer-short (New i) h = omega (arith, length-append (decimal i) (ascii " new"), decimal-short i 4 (omega (arith, h)))
+answer-short (Ok who k) h = omega (arith, length-append (namesText who) (field " +" k), names-short who (h .0), added-short k (h .1))
 answer-short (Refused k) h = omega (arith, field-length "refused " k, decimal-short k 2 (omega (arith, h)))

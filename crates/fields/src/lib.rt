@@ -1,11 +1,12 @@
 // The fields of the listing's lines, written into a lent buffer from an offset on. Each function answers the offset after what it wrote.
 use exchange::call::Answer;
 use exchange::call::Call;
+use exchange::call::Names;
 ghost use mathlib.Core.List.{_++_};
 ghost use mathlib.Core.Path.{_≡_};
 ghost use Prim.Native.Nat.{_+_, _≤_};
 ghost use lib.ListN.{length};
-ghost use Rattle.fields.specs.Fields.{decimal, answerText, markText};
+ghost use Rattle.fields.specs.Fields.{decimal, markText, namesText, answerText};
 ghost use Rattle.fields.specs.Placed.{Wrote};
 
 // A text as it is.
@@ -78,15 +79,38 @@ pub fn write_mark(out: &mut [u8], at: usize, call: Call) -> usize
     }
 }
 
+// A term's number, then whether it is new.
+fn write_term(out: &mut [u8], at: usize, term: u16, text: &[u8]) -> usize
+    requires { ⌜ at + 10 + length (now text) ≤ length (now out) ⌝ }
+    ensures { λ r. ⌜ Wrote (now (out .entry)) at (decimal term ++ now (text .entry)) (now (out .exit)) r ⌝ }
+{
+    let next = write_number(out, at, term as u32);
+    write_text(out, next, text)
+}
+
+// `ok`, and the run or none.
+fn write_names(out: &mut [u8], at: usize, names: Names) -> usize
+    requires { ⌜ at + 13 ≤ length (now out) ⌝ }
+    ensures { λ r. ⌜ Wrote (now (out .entry)) at (namesText names) (now (out .exit)) r × (r ≤ at + 6) ⌝ }
+{
+    match names {
+        Names::Run(run) => write_field(out, at, b"ok ", run as u32),
+        Names::Nobody => write_text(out, at, b"ok -"),
+    }
+}
+
 // What a record was answered.
 pub fn write_answer(out: &mut [u8], at: usize, answer: Answer) -> usize
     requires { ⌜ at + 18 ≤ length (now out) ⌝ }
-    ensures { λ r. ⌜ Wrote (now (out .entry)) at (answerText answer) (now (out .exit)) r × (r ≤ at + 11) ⌝ }
+    ensures { λ r. ⌜ Wrote (now (out .entry)) at (answerText answer) (now (out .exit)) r × (r ≤ at + 13) ⌝ }
 {
     match answer {
-        Answer::Number(term) => write_number(out, at, term as u32),
-        Answer::OkRun(run) => write_field(out, at, b"ok ", run as u32),
-        Answer::Ok => write_text(out, at, b"ok -"),
+        Answer::Old(term) => write_term(out, at, term, b" old"),
+        Answer::New(term) => write_term(out, at, term, b" new"),
+        Answer::Ok { names, added } => {
+            let next = write_names(out, at, names);
+            write_field(out, next, b" +", added as u32)
+        }
         Answer::Refused(refusal) => write_field(out, at, b"refused ", refusal as u32),
     }
 }

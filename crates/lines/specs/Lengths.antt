@@ -18,7 +18,7 @@ joined-length a b c = length-append (a ++ b) c ∙ ap (λ (k : ℕ). k + length 
 -- ---- lines, by the digits of their numbers
 
 module _ (d : ℕ) where
-  pub call-length : (number : ℕ) (call : Call) (answer : Answer) → number < 10 ^ suc d → Narrow answer → length (callLine number call answer) ≤ suc d + 16
+  pub call-length : (number : ℕ) (call : Call) (answer : Answer) → number < 10 ^ suc d → Narrow answer → length (callLine number call answer) ≤ suc d + 18
   unfolding callLine
   call-length number call answer h n =
       omega (

@@ -2,9 +2,9 @@
 // looked at after all this, by the crate above.
 use conditions::can_deliver;
 use decisions::Keeping;
-use decisions::Names;
 use decisions::Sends;
 use decisions::Verdict;
+use exchange::call::Names;
 use exchange::need::fits;
 use exchange::run::Role;
 use realm::header::Realm;

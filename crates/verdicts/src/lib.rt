@@ -3,9 +3,9 @@
 use decisions::Change;
 use decisions::Effect;
 use decisions::Keeping;
-use decisions::Names;
 use decisions::Sends;
 use decisions::Verdict;
+use exchange::call::Names;
 use exchange::run::Role;
 use exchange::run::Row;
 use exchange::run::Stage;

@@ -3,7 +3,7 @@
 use mathlib.Core.Path.{_≡_, sym, ap, _∙_}
 use mathlib.Core.Bool.{true}
 use mathlib.Core.List.{List}
-use Prim.Native.Nat.{ℕ, _+_}
+use Prim.Native.Nat.{ℕ, _+_, _-_}
 use native.Mathlib.Omega.{arith}
 use borrow.Author.Tests.{le-leb}
 use Rattle.terms.specs.Message.{Message}
@@ -11,7 +11,7 @@ use Rattle.messages.specs.Plan as plans
 use Rattle.sending.specs.declared.Prepared.{Prepared}
 use Rattle.sending.specs.Promises.{room-known, plan-sent, send-room}
 use Rattle.sending.specs.Send.{Sending, sent, refused, markedBy, fitsIn}
-use Rattle.exchange.specs.declared.call.Answer.{Answer}
+use Rattle.exchange.specs.declared.call.Answer.the-variants.{Ok}
 use Rattle.replay.specs.declared.cache.Swept.{Swept}
 use Rattle.realm.specs.Tables.{Tables, tables, Together}
 use Rattle.decisions.specs.declared.Change.{Change}
@@ -22,7 +22,7 @@ use Rattle.decisions.specs.Laws.Fits.{RowReady, EntryReady}
 use Rattle.decisions.specs.declared.Effect.{Effect}
 use Rattle.decisions.specs.Effects.{messagesOf}
 use Rattle.deciding.specs.Decided.{Writable}
-use Rattle.effects.specs.Apply.{Outcome, refuse, answerOf, realmAfter, appliedWith, applied}
+use Rattle.effects.specs.Apply.{Outcome, refuse, realmAfter, appliedWith, applied}
 use Rattle.effects.specs.Cache.{cacheOf, EntryRoom}
 use Rattle.effects.specs.Row.{ChangeFits, changed, runCount}
 
@@ -56,9 +56,11 @@ module _ (t : Tables) (x : Effect) where
 
     module _ {ts ws : List ℕ} (sent : (ts ≡ plans.withPlan (t .terms) (t .realm .terms) (r .plan)) × (ws ≡ markedBy (r .marks) (t .wire))) {rs : List ℕ} {opened : ℕ}
         (rows : (rs ≡ changed (t .realm .runs) (x .change) (t .runs)) × (opened ≡ runCount (t .realm .runs) (x .change))) {swept : Swept}
-        (kept : swept ≡ cacheOf (t .realm) (t .cache) (x .keeping)) {answer : Answer} (told : answer ≡ answerOf (x .names)) where
+        (kept : swept ≡ cacheOf (t .realm) (t .cache) (x .keeping)) where
       pub all-applied : record {
-        answer = answer;
+        answer = Ok (x .names) (r .plan .count);
         tables = tables (realmAfter (t .realm) (x .clock) (t .realm .terms + r .plan .count) opened (swept .count)) ts rs ws (swept .places);
       } ≡ applied t x
-      all-applied = rw (← plan-applied, ← kept, sent .0, sent .1, rows .0, rows .1, told)
+      all-applied =
+          let grown : (t .realm .terms + r .plan .count) - t .realm .terms ≡ r .plan .count = omega arith in
+          rw (← plan-applied, ← kept, sent .0, sent .1, rows .0, rows .1, grown)

@@ -8,7 +8,8 @@ use native.Mathlib.Omega.{arith}
 use native.Mathlib.Decide.{ℕ-discrete}
 use Rattle.deduction.specs.Derives.{on-wire, join}
 use Rattle.exchange.specs.declared.call.Call.the-variants.{Term, Step}
-use Rattle.exchange.specs.declared.call.Answer.the-variants.{Number, OkRun}
+use Rattle.exchange.specs.declared.call.Names.the-variants.{Run}
+use Rattle.exchange.specs.declared.call.Answer.the-variants.{New, Ok}
 use Rattle.traces.specs.Lists.{here, there, now}
 use Rattle.kerberos.specs.Messages.{parallel}
 use Rattle.traces.specs.Logs.{did, sent}
@@ -23,12 +24,12 @@ use Rattle.traces.specs.Sample.{realm, headerOf, good, apart, le, nowhere}
 -- the newest first
 abbrev pub accepting : History
 accepting =
-    (Step 5 2 0 0 17 0, OkRun 2)
-    ∷ (Term 5 15 16, Number 17)
-    ∷ (Step 2 0 1 2 0 0, OkRun 2)
-    ∷ (Step 4 0 0 0 11 0, OkRun 0)
-    ∷ (Step 3 0 0 0 4 0, OkRun 1)
-    ∷ (Step 1 0 1 2 0 0, OkRun 0)
+    (Step 5 2 0 0 17 0, Ok (Run 2) 1)
+    ∷ (Term 5 15 16, New 17)
+    ∷ (Step 2 0 1 2 0 0, Ok (Run 2) 0)
+    ∷ (Step 4 0 0 0 11 0, Ok (Run 0) 1)
+    ∷ (Step 3 0 0 0 4 0, Ok (Run 1) 11)
+    ∷ (Step 1 0 1 2 0 0, Ok (Run 0) 5)
     ∷ []
 
 pub lawful-accepting : Lawful parallel realm accepting

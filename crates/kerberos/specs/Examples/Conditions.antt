@@ -9,7 +9,8 @@ use native.Mathlib.Decide.{ℕ-discrete}
 use Rattle.marks.specs.Bits.{bit}
 use Rattle.deduction.specs.Derives.{Own, Bad, on-wire, a-principal, a-time, bad-key, own-nonce, own-key, left, decrypt, join, encrypt}
 use Rattle.exchange.specs.declared.call.Call.the-variants.{Term, Step}
-use Rattle.exchange.specs.declared.call.Answer.the-variants.{Number, OkRun}
+use Rattle.exchange.specs.declared.call.Names.the-variants.{Run}
+use Rattle.exchange.specs.declared.call.Answer.the-variants.{New, Ok}
 use Rattle.traces.specs.Realm.{Realm}
 use Rattle.traces.specs.Lists.{here, there}
 use Rattle.kerberos.specs.Messages.{parallel}
@@ -33,12 +34,12 @@ own64 = record { low = omega arith; high = omega arith }
 
 abbrev pub asked : History
 asked =
-    (Step 3 0 0 0 4 0, OkRun 0)
-    ∷ (Term 5 0 3, Number 4)
-    ∷ (Term 5 1 2, Number 3)
-    ∷ (Term 2 64 0, Number 2)
-    ∷ (Term 0 2 0, Number 1)
-    ∷ (Term 0 1 0, Number 0)
+    (Step 3 0 0 0 4 0, Ok (Run 0) 11)
+    ∷ (Term 5 0 3, New 4)
+    ∷ (Term 5 1 2, New 3)
+    ∷ (Term 2 64 0, New 2)
+    ∷ (Term 0 2 0, New 1)
+    ∷ (Term 0 1 0, New 0)
     ∷ []
 
 lawful-asked : (flags : ℕ) → flags ≤ 4 → flags % 2 ≡ 0 → Lawful parallel (realmOf flags) asked
@@ -55,16 +56,16 @@ lawful-asked flags h e =
 -- the intruder's authenticator with that key is term 16
 abbrev delivered : History → History
 delivered h =
-    (Step 5 1 0 0 17 0, OkRun 1)
-    ∷ (Term 5 15 16, Number 17)
-    ∷ (Term 6 12 5, Number 16)
-    ∷ (Step 2 0 1 2 0 0, OkRun 1)
+    (Step 5 1 0 0 17 0, Ok (Run 1) 1)
+    ∷ (Term 5 15 16, New 17)
+    ∷ (Term 6 12 5, New 16)
+    ∷ (Step 2 0 1 2 0 0, Ok (Run 1) 0)
     ∷ h
 
 -- ---- the key has leaked
 
 abbrev pub leaked : History
-leaked = delivered ((Step 9 0 0 0 0 0, OkRun 0) ∷ asked)
+leaked = delivered ((Step 9 0 0 0 0 0, Ok (Run 0) 0) ∷ asked)
 
 leaked-none : {i a b : ℕ} → ¬ (Initiator (log parallel leaked) i a b)
 unfolding ℕ-discrete
@@ -120,17 +121,17 @@ goodA-needed = record {
 
 abbrev pub badB : History
 badB =
-    (Step 5 0 0 0 8 0, OkRun 0)
-    ∷ (Step 2 0 1 2 0 0, OkRun 0)
-    ∷ (Term 5 6 7, Number 8)
-    ∷ (Term 6 2 3, Number 7)
-    ∷ (Term 6 4 5, Number 6)
-    ∷ (Term 3 2 0, Number 5)
-    ∷ (Term 5 3 2, Number 4)
-    ∷ (Term 4 64 0, Number 3)
-    ∷ (Term 5 0 1, Number 2)
-    ∷ (Term 1 0 0, Number 1)
-    ∷ (Term 0 1 0, Number 0)
+    (Step 5 0 0 0 8 0, Ok (Run 0) 1)
+    ∷ (Step 2 0 1 2 0 0, Ok (Run 0) 0)
+    ∷ (Term 5 6 7, New 8)
+    ∷ (Term 6 2 3, New 7)
+    ∷ (Term 6 4 5, New 6)
+    ∷ (Term 3 2 0, New 5)
+    ∷ (Term 5 3 2, New 4)
+    ∷ (Term 4 64 0, New 3)
+    ∷ (Term 5 0 1, New 2)
+    ∷ (Term 1 0 0, New 1)
+    ∷ (Term 0 1 0, New 0)
     ∷ []
 
 badB-none : {i a b : ℕ} → ¬ (Initiator (log parallel badB) i a b)

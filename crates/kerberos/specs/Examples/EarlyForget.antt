@@ -11,7 +11,8 @@ use native.Mathlib.Decide.{ℕ-discrete}
 use Rattle.terms.specs.Message.{pair}
 use Rattle.deduction.specs.Derives.{on-wire, join}
 use Rattle.exchange.specs.declared.call.Call.the-variants.{Step}
-use Rattle.exchange.specs.declared.call.Answer.the-variants.{OkRun, Ok}
+use Rattle.exchange.specs.declared.call.Names.the-variants.{Run, Nobody}
+use Rattle.exchange.specs.declared.call.Answer.the-variants.{Ok}
 use Rattle.traces.specs.Realm.{Realm}
 use Rattle.traces.specs.Lists.{_∈_, here, there}
 use Rattle.kerberos.specs.Messages.{parallel, ticket, authenticator}
@@ -31,7 +32,7 @@ early R ((e, ms) ∷ l) = cacheAfter R (suc (clock l)) e (early R l)
 
 -- "B: Ta 0, La 10: clock 9 passes"
 abbrev pub purged : History
-purged = (Step 2 0 1 2 0 0, OkRun 3) ∷ (Step 8 0 0 2 0 0, Ok) ∷ (Step 7 0 0 0 0 9, Ok) ∷ accepting
+purged = (Step 2 0 1 2 0 0, Ok (Run 3) 0) ∷ (Step 8 0 0 2 0 0, Ok Nobody 0) ∷ (Step 7 0 0 0 0 9, Ok Nobody 0) ∷ accepting
 
 pub lawful-purged : Lawful parallel realm purged
 unfolding ℕ-discrete

@@ -31,7 +31,6 @@ returns : tie.Need-returns
 returns c =
     let s = c .before .before .before .before .before .before .before .before .before .before .before .before .before .before .before .before .before .before .before .before in
     all-applied (lent s) (s .args .effect) (s .pre .1) (c .before .before .before .before .before .before .before .before .before .before .before .write-messages .ensures) (c .before .before .before .before .before .write-row .ensures) (c .before .before .cache-after .ensures)
-    (c .answer-of .ensures)
 
 pub apply-spec : {M : Type 1} → statement M
 apply-spec =
@@ -41,7 +40,7 @@ apply-spec =
     write-messages-requires
     write-row-requires
     cache-after-requires
-    (λ c κs. search needs)
+    (λ c. search needs)
     (λ c. search needs)
     (λ c. search needs)
     (λ c. search needs)
