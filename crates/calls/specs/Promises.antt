@@ -1,18 +1,21 @@
 -- What is promised of the public call, `call`, and so of `pogandir_call`: its contract is an equation with `lentCall`, the answer and
 -- every table afterwards. Reading order: Lent (one call), Lists (a list of them, each on the tables that the one before it left).
 -- Assumes nothing.
-use Prim.Native.Nat.{ℕ, _^_, _<_}
+use Prim.Native.Nat.{ℕ, _+_, _^_, _<_}
 use mathlib.Core.Path.{_≡_}
 use mathlib.Core.Bool.{true}
-use mathlib.Core.List.{List}
+use mathlib.Core.List.{List, _∷_}
 use mathlib.Core.Logic.{_↔_}
-use Rattle.terms.specs.Message.{session, key}
+use mathlib.Core.Option.{some}
+use lib.ListN.{length}
+use Rattle.terms.specs.Message.{session, Message, key}
 use Rattle.exchange.specs.declared.call.Answer.the-variants.{Refused}
 use Rattle.exchange.specs.declared.call.Call.{Call}
-use Rattle.exchange.specs.declared.call.Call.the-variants.{Step}
-use Rattle.exchange.specs.Calls.{accepts, Sized, AllSized}
+use Rattle.exchange.specs.declared.call.Call.the-variants.{Term, Step}
+use Rattle.exchange.specs.Calls.{accepts, addedBy, Sized, AllSized}
 use Rattle.traces.specs.Engines.{Agrees}
 use Rattle.traces.specs.RuleSets.{reading}
+use Rattle.traces.specs.Terms.{messageFrom}
 use Rattle.kerberos.specs.Agreement.{Demand3}
 use Rattle.kerberos.specs.Log.{Act}
 use Rattle.kerberos.specs.Messages.{parallel}
@@ -25,7 +28,8 @@ use Rattle.exchange.specs.declared.header.Header.{Header}
 use Rattle.realm.specs.Opening.{header, openingOf}
 use Rattle.realm.specs.Tables.{Tables, Together}
 use Rattle.simulation.specs.Engine.{New, opened-new}
-use Rattle.simulation.specs.Exact.{Takable, toldOf}
+use Rattle.simulation.specs.Exact.{Takable}
+use Rattle.simulation.specs.Told.{stepTold, termTold}
 use Rattle.simulation.specs.Underivable.{Barred}
 use Rattle.simulation.specs.Unread.{Alike}
 use Rattle.simulation.specs.Values.{valuesOf}
@@ -68,10 +72,21 @@ module _ (g : Header) (ls-fits : g .ls < 2 ^ 32) (la-fits : g .la < 2 ^ 32) (h :
   pub public-exact : (c : Call) → Sized c → (accepts (lentCall (lentAfter t cs) c .answer) ≡ true) ↔ Takable (header h) (reading HD (lentHistory t cs)) c
   public-exact c size = kept.accepted-exact (lent-follows (header h) t new cs sized) c size
 
-  -- and a step's answer tells the run that its event opened or names.
+  -- and the answer is told by that reading: a step's is the run that its event opened or names and how many terms it added,
   pub public-answer : (step r a b m now : ℕ) {act : Act} → let ρ = reading HD (lentHistory t cs) in
-      Takes parallel (header h) (ρ .terms) (ρ .log) (Step step r a b m now) act → lentCall (lentAfter t cs) (Step step r a b m now) .answer ≡ toldOf (act .0)
+      Takes parallel (header h) (ρ .terms) (ρ .log) (Step step r a b m now) act → lentCall (lentAfter t cs) (Step step r a b m now) .answer ≡ stepTold (ρ .terms) act
   public-answer step r a b m now k = kept.step-answer (lent-follows (header h) t new cs sized) step r a b m now k
+
+  -- a term's its number, old where it was present and new where not.
+  pub public-term : (kind x y : ℕ) → Sized (Term kind x y) → {act : Act} {m : Message} → let ρ = reading HD (lentHistory t cs) in
+      Takes parallel (header h) (ρ .terms) (ρ .log) (Term kind x y) act → messageFrom (ρ .terms) kind x y ≡ some m
+      → lentCall (lentAfter t cs) (Term kind x y) .answer ≡ termTold 0 (ρ .terms) m
+  public-term kind x y size k made = kept.term-answer (lent-follows (header h) t new cs sized) kind x y size k made
+
+  -- The reading's table grows by as many terms as the answer tells, whatever the call.
+  pub public-grows : (c : Call) → Sized c
+      → length (reading HD (lentHistory t (c ∷ cs)) .terms) ≡ length (reading HD (lentHistory t cs) .terms) + addedBy (lentCall (lentAfter t cs) c .answer)
+  public-grows c size = kept.terms-grow (lent-follows (header h) t new cs sized) c size
 
   -- 15 is given exactly where the table of refusals has it for the step, the intruder cannot deliver m, and no refusal before it was
   -- given.

@@ -3,6 +3,7 @@ pub mod Apply
 pub mod Call
 pub mod Kept
 pub mod Numbers
+pub mod Added
 pub mod Row
 pub mod Cache
 pub mod ThinCalls

@@ -2,17 +2,19 @@
 -- Apply, over Row and Cache; what can be refused is decided before. `Call` has a whole call: the engine's contracts are equations
 -- with it.
 -- Assumes nothing.
-use Prim.Native.Nat.{ℕ}
+use Prim.Native.Nat.{ℕ, _+_}
 use mathlib.Core.Logic.{_↔_}
 use mathlib.Core.Path.{_≡_, refl}
 use Rattle.exchange.specs.declared.call.Answer.the-variants.{Refused}
 use Rattle.exchange.specs.declared.call.Call.{Call}
+use Rattle.exchange.specs.Calls.{addedBy}
 use Rattle.decisions.specs.declared.Effect.{Effect}
 use Rattle.decisions.specs.declared.Verdict.the-variants as verdicts
 use Rattle.decisions.specs.Decision.{decision}
 use Rattle.realm.specs.declared.input.Step.{Step}
 use Rattle.realm.specs.Opening.{header}
-use Rattle.realm.specs.Tables.{Tables}
+use Rattle.realm.specs.Tables.{Tables, Together}
+use Rattle.effects.specs.Added as added
 use Rattle.effects.specs.Apply.{applied}
 use Rattle.effects.specs.Call.{stepped, called}
 use Rattle.effects.specs.Kept as kept
@@ -39,3 +41,7 @@ step-refused t s = kept.step-refused t s
 -- "10 is met only by a library caller": no call answers it, but for the check
 pub never-10 : (t : Tables) (c : Call) → ¬ (called t c .answer ≡ Refused 10)
 never-10 t c e = numbers.never-10 t c e
+
+-- an answer tells how many terms the table has more: none where a term was present, one where it is new, and what a step added
+pub added-counted : (t : Tables) → Together t → (c : Call) → called t c .tables .realm .terms ≡ t .realm .terms + addedBy (called t c .answer)
+added-counted t w c = added.added-counted t w c

@@ -5,9 +5,11 @@ use mathlib.Core.Path.{_≡_}
 use mathlib.Core.Bool.{true, false, cond}
 use mathlib.Core.List.{List}
 use Rattle.exchange.specs.declared.call.Answer.{Answer}
-use Rattle.exchange.specs.declared.call.Answer.the-variants.{Number, OkRun, Ok, Refused}
+use Rattle.exchange.specs.declared.call.Answer.the-variants.{Old, New, Ok, Refused}
 use Rattle.exchange.specs.declared.call.Call.{Call}
 use Rattle.exchange.specs.declared.call.Call.the-variants.{Term, Step}
+use Rattle.exchange.specs.declared.call.Names.the-variants.{Run, Nobody}
+use Rattle.exchange.specs.Calls.{addedBy}
 use Rattle.realm.specs.Tables.{Tables}
 use Rattle.effects.specs.Apply.{Outcome}
 use Rattle.calls.specs.declared.Called.{Called}
@@ -28,20 +30,22 @@ callOf q = cond (q .adds) (Term (q .kind) (q .l) (q .r)) (Step (q .step) (q .run
 -- ---- its answer
 
 abbrev pub answerKind : Answer → ℕ
-answerKind (Number i) = 0
-answerKind (OkRun r) = 1
-answerKind Ok = 2
+answerKind (Old i) = 0
+answerKind (New i) = 0
+answerKind (Ok (Run r) k) = 1
+answerKind (Ok Nobody k) = 2
 answerKind (Refused k) = 3
 
 -- its number, or else 0
 abbrev pub answerNumber : Answer → ℕ
-answerNumber (Number i) = i
-answerNumber (OkRun r) = r
-answerNumber Ok = 0
+answerNumber (Old i) = i
+answerNumber (New i) = i
+answerNumber (Ok (Run r) k) = r
+answerNumber (Ok Nobody k) = 0
 answerNumber (Refused k) = k
 
 abbrev pub replyOf : Called → Reply
-replyOf x = record { realm = x .realm; kind = answerKind (x .answer); number = answerNumber (x .answer) }
+replyOf x = record { realm = x .realm; kind = answerKind (x .answer); number = answerNumber (x .answer); added = addedBy (x .answer) }
 
 -- what a call comes to: the reply, and the tables
 abbrev pub replied : Outcome → Reply × Tables

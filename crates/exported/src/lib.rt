@@ -4,6 +4,8 @@ use calls::Called;
 use calls::call;
 use exchange::call::Answer;
 use exchange::call::Call;
+use exchange::call::Names;
+use exchange::call::added;
 use exchange::header::Header;
 use realm::header::Realm;
 use replay::entry::Entry;
@@ -16,7 +18,7 @@ ghost use Rattle.realm.specs.Tables.{tables};
 ghost use Rattle.calls.specs.Lent.{lentCall};
 ghost use Rattle.walkfile.specs.Listing.{listed};
 ghost use Rattle.writer.specs.Write.{writeOf};
-ghost use Rattle.exported.specs.Numbers.{callOf, replyOf, replied, shown, filed};
+ghost use Rattle.exported.specs.Numbers.{callOf, answerKind, answerNumber, replyOf, replied, shown, filed};
 
 // A call: a term where `adds`, with the next three fields, or else a step, with the others.
 // Fields that are not used may hold anything.
@@ -43,12 +45,14 @@ const OK: u8 = 2;
 
 const REFUSED: u8 = 3;
 
-// A realm after a call, the kind of the answer, and its number, or else 0.
+// A realm after a call, the kind of the answer, its number, or else 0, and how many terms were added: 1 for a new term, 0 for one that
+// was present.
 #[repr(C)]
 pub struct Reply {
     pub realm: Realm,
     pub kind: u8,
     pub number: u16,
+    pub added: u16,
 }
 
 fn call_of(q: Record) -> Call
@@ -71,32 +75,44 @@ fn call_of(q: Record) -> Call
     }
 }
 
+fn kind_of(answer: Answer) -> u8
+    ensures { λ r. ⌜ r ≡ answerKind answer ⌝ }
+{
+    match answer {
+        Answer::Old(_) => NUMBER,
+        Answer::New(_) => NUMBER,
+        Answer::Ok { names, added: _ } => match names {
+            Names::Run(_) => OK_RUN,
+            Names::Nobody => OK,
+        },
+        Answer::Refused(_) => REFUSED,
+    }
+}
+
+fn number_of(answer: Answer) -> u16
+    ensures { λ r. ⌜ r ≡ answerNumber answer ⌝ }
+{
+    match answer {
+        Answer::Old(i) => i,
+        Answer::New(i) => i,
+        Answer::Ok { names, added: _ } => match names {
+            Names::Run(run) => run as u16,
+            Names::Nobody => 0,
+        },
+        Answer::Refused(number) => number as u16,
+    }
+}
+
 fn reply_of(x: Called) -> Reply
     ensures { λ r. ⌜ r ≡ replyOf x ⌝ }
 {
     let realm = x.realm;
     let answer = x.answer;
-    match answer {
-        Answer::Number(i) => Reply {
-            realm,
-            kind: NUMBER,
-            number: i,
-        },
-        Answer::OkRun(run) => Reply {
-            realm,
-            kind: OK_RUN,
-            number: run as u16,
-        },
-        Answer::Ok => Reply {
-            realm,
-            kind: OK,
-            number: 0,
-        },
-        Answer::Refused(number) => Reply {
-            realm,
-            kind: REFUSED,
-            number: number as u16,
-        },
+    Reply {
+        realm,
+        kind: kind_of(answer),
+        number: number_of(answer),
+        added: added(answer),
     }
 }
 

@@ -26,9 +26,10 @@ use Rattle.synthesis.specs.Sweep.{visitOf, sweepOf}
 use Rattle.synthesis.specs.Test.{saturateOf, composesOf, derivableOf}
 use Rattle.sending.specs.Send.{sendOf}
 use Rattle.exchange.specs.declared.call.Answer.{Answer}
-use Rattle.exchange.specs.declared.call.Answer.the-variants.{Number, OkRun, Ok, Refused}
+use Rattle.exchange.specs.declared.call.Answer.the-variants.{New, Ok, Refused}
 use Rattle.exchange.specs.declared.call.Call.{Call}
 use Rattle.exchange.specs.declared.call.Call.the-variants.{Term, Step}
+use Rattle.exchange.specs.declared.call.Names.the-variants.{Run, Nobody}
 use Rattle.exchange.specs.Needs.{needTable}
 use Rattle.layers.specs.Layers.{ofKind, layer, _▸_}
 use Rattle.forms.specs.Forms.{requestIn, replyIn, confirmationIn}
@@ -108,38 +109,38 @@ abbrev exchanged : List Call
 exchanged = Step 1 0 1 2 0 0 ∷ Step 3 0 0 0 4 0 ∷ Step 4 0 0 0 11 0 ∷ Step 2 0 1 2 0 0 ∷ Term 5 15 16 ∷ []
 
 abbrev exchange-answers : List Answer
-exchange-answers = OkRun 0 ∷ OkRun 1 ∷ OkRun 0 ∷ OkRun 2 ∷ Number 17 ∷ []
+exchange-answers = Ok (Run 0) 5 ∷ Ok (Run 1) 11 ∷ Ok (Run 0) 1 ∷ Ok (Run 2) 0 ∷ New 17 ∷ []
 
--- "F"
+-- "F": "its accepted steps add 5, 11, 1, 0, 1, 0 and 0 terms in turn"
 abbrev f : Case
 f =
     case new (exchanged ++ (Step 5 2 0 0 17 0 ∷ Step 6 0 0 0 18 0 ∷ Step 2 0 1 2 0 0 ∷ Step 5 3 0 0 17 0 ∷ []))
-    (exchange-answers ++ (OkRun 2 ∷ OkRun 0 ∷ OkRun 3 ∷ Refused 18 ∷ [])) (ends 4 5 1 0)
+    (exchange-answers ++ (Ok (Run 2) 1 ∷ Ok (Run 0) 0 ∷ Ok (Run 3) 0 ∷ Refused 18 ∷ [])) (ends 4 5 1 0)
 
 -- "A: Ts 0, Ls 100: clock 99 passes, 100 gives 16."
 abbrev a : (clock : ℕ) → Answer → (wire : ℕ) → Case
 a clock answer wire =
-    case new (Step 1 0 1 2 0 0 ∷ Step 3 0 0 0 4 0 ∷ Step 7 0 0 0 0 clock ∷ Step 4 0 0 0 11 0 ∷ []) (OkRun 0 ∷ OkRun 1 ∷ Ok ∷ answer ∷ []) (ends 2 wire 0 clock)
+    case new (Step 1 0 1 2 0 0 ∷ Step 3 0 0 0 4 0 ∷ Step 7 0 0 0 0 clock ∷ Step 4 0 0 0 11 0 ∷ []) (Ok (Run 0) 5 ∷ Ok (Run 1) 11 ∷ Ok Nobody 0 ∷ answer ∷ []) (ends 2 wire 0 clock)
 
 -- "B: Ta 0, La 10: clock 9 passes, 10 gives 17."
 abbrev b : (clock : ℕ) → Answer → (wire entries : ℕ) → Case
 b clock answer wire entries =
-    case new (exchanged ++ (Step 7 0 0 0 0 clock ∷ Step 5 2 0 0 17 0 ∷ [])) (exchange-answers ++ (Ok ∷ answer ∷ [])) (ends 3 wire entries clock)
+    case new (exchanged ++ (Step 7 0 0 0 0 clock ∷ Step 5 2 0 0 17 0 ∷ [])) (exchange-answers ++ (Ok Nobody 0 ∷ answer ∷ [])) (ends 3 wire entries clock)
 
 -- "C: that entry survives step 8 at clock 9 and goes at 10."
 abbrev c : (clock entries : ℕ) → Case
 c clock entries =
-    case new (exchanged ++ (Step 5 2 0 0 17 0 ∷ Step 7 0 0 0 0 clock ∷ Step 8 0 0 2 0 0 ∷ [])) (exchange-answers ++ (OkRun 2 ∷ Ok ∷ Ok ∷ [])) (ends 3 5 entries clock)
+    case new (exchanged ++ (Step 5 2 0 0 17 0 ∷ Step 7 0 0 0 0 clock ∷ Step 8 0 0 2 0 0 ∷ [])) (exchange-answers ++ (Ok (Run 2) 1 ∷ Ok Nobody 0 ∷ Ok Nobody 0 ∷ [])) (ends 3 5 entries clock)
 
 -- "D: step 7 to the same clock is accepted; one less gives 12."
 abbrev d : Case
-d = case new (Step 7 0 0 0 0 5 ∷ Step 7 0 0 0 0 5 ∷ Step 7 0 0 0 0 4 ∷ []) (Ok ∷ Ok ∷ Refused 12 ∷ []) (ends 0 0 0 5)
+d = case new (Step 7 0 0 0 0 5 ∷ Step 7 0 0 0 0 5 ∷ Step 7 0 0 0 0 4 ∷ []) (Ok Nobody 0 ∷ Ok Nobody 0 ∷ Refused 12 ∷ []) (ends 0 0 0 5)
 
 -- "E: nothing on the wire: time 0 and a pair of two parties can be built, a good party's key cannot."
 abbrev e : Case
 e =
     case (handed 0 100 10 (words.Time 0 ∷ words.Principal 1 ∷ words.Principal 2 ∷ words.Pair 1 2 ∷ words.LongTermKey 1 ∷ []) 0)
-    (Step 10 0 0 0 0 0 ∷ Step 10 0 0 0 3 0 ∷ Step 10 0 0 0 4 0 ∷ []) (Ok ∷ Ok ∷ Refused 15 ∷ []) (ends 0 0 0 0)
+    (Step 10 0 0 0 0 0 ∷ Step 10 0 0 0 3 0 ∷ Step 10 0 0 0 4 0 ∷ []) (Ok Nobody 0 ∷ Ok Nobody 0 ∷ Refused 15 ∷ []) (ends 0 0 0 0)
 
 -- "G: only {key 1}key 1 on the wire: key 1 cannot be built."
 abbrev g : Case
@@ -149,22 +150,22 @@ g = case (handed 0 100 10 (words.SessionKey 1 ∷ words.Encrypted 0 0 ∷ []) 2)
 abbrev h : Case
 h =
     case (handed 4 100 10 (words.SessionKey 1 ∷ words.SessionKey 2 ∷ words.Encrypted 1 0 ∷ words.LongTermKey 2 ∷ words.Encrypted 0 3 ∷ []) 20)
-    (Step 10 0 0 0 1 0 ∷ []) (Ok ∷ []) (ends 0 2 0 0)
+    (Step 10 0 0 0 1 0 ∷ []) (Ok Nobody 0 ∷ []) (ends 0 2 0 0)
 
 -- "I: only {nonce 0}key 1 on the wire: that lock can be built, nonce 0 cannot."
 abbrev i : Case
 i =
     case (handed 0 100 10 (words.Nonce 0 ∷ words.SessionKey 1 ∷ words.Encrypted 0 1 ∷ []) 4)
-    (Step 10 0 0 0 2 0 ∷ Step 10 0 0 0 0 0 ∷ []) (Ok ∷ Refused 15 ∷ []) (ends 0 1 0 0)
+    (Step 10 0 0 0 2 0 ∷ Step 10 0 0 0 0 0 ∷ []) (Ok Nobody 0 ∷ Refused 15 ∷ []) (ends 0 1 0 0)
 
 -- ---- the table and its theorem
 
 abbrev pub table : List Case
 table =
     f
-    ∷ a 99 (OkRun 0) 4
+    ∷ a 99 (Ok (Run 0) 3) 4
     ∷ a 100 (Refused 16) 3
-    ∷ b 9 (OkRun 2) 5 1
+    ∷ b 9 (Ok (Run 2) 1) 5 1
     ∷ b 10 (Refused 17) 4 0
     ∷ c 9 1
     ∷ c 10 0

@@ -2,7 +2,7 @@
 -- it accepts is one that the rules take. So demand 3 holds of it. A call is taken as `called` has it; the tables hold together
 -- from the start on, so the check of refusal 10 never shows.
 -- Assumes nothing.
-use Prim.Native.Nat.{ℕ, _^_, _<_}
+use Prim.Native.Nat.{ℕ, _-_, _^_, _<_}
 use mathlib.Core.Path.{_≡_, refl, sym, ap, subst, _∙_}
 use mathlib.Core.Bool.{true, false}
 use mathlib.Core.List.{List, [], _∷_, map}
@@ -45,7 +45,7 @@ use Rattle.simulation.specs.Follows.{refused-agrees}
 use Rattle.simulation.specs.Taken.{step-taken, step-agrees}
 use Rattle.simulation.specs.Terms.{term-takes, term-agrees}
 use Rattle.simulation.specs.Values.{logged, valuesOf}
-use Rattle.effects.specs.Kept.{ok}
+use Rattle.effects.specs.Kept.{number-accepts}
 use Rattle.effects.specs.Call.{adding, withAdding, byVerdict, stepped, called}
 use Rattle.simulation.specs.Kept.{step-sends, call-kept}
 
@@ -88,10 +88,13 @@ module _ {R : Realm} {t : Tables} {ρ : Reading Event} (f : Follows R t ρ) (s :
   by-verdict (verdicts.Takes x) d =
       let p = decision-takes t s d .0 in
       let o = step-sends t s d in
-      rw (ok (x .names))
-      (subst (λ (a : Act). Matches R (applied t x .tables) (acted ρ a)) (sym (rules-read ρ (step-taken (f .together) s p o (f .header-is) ρ (f .agrees))))
-      (record { header-is = f .header-is; agrees = step-agrees (f .together) s p o (f .header-is) ρ (f .agrees) }))
+      subst (λ (a : Act). Matches R (applied t x .tables) (acted ρ a)) (sym (rules-read ρ (step-taken (f .together) s p o (f .header-is) ρ (f .agrees))))
+      (record { header-is = f .header-is; agrees = step-agrees (f .together) s p o (f .header-is) ρ (f .agrees) })
   by-verdict (verdicts.Refused k) d = kept (callOf s) f
+
+  pub step-matches : Matches R (stepped t s .tables) (read HD (accepts (stepped t s .answer)) (callOf s) ρ)
+  unfolding stepped
+  step-matches = by-verdict (decision t s) refl
 
   verdict-takes : (v : Verdict) → decision t s ≡ v → accepts (byVerdict t v .answer) ≡ true → Taken HD R ρ (callOf s)
   verdict-takes (verdicts.Takes x) d a =
@@ -106,7 +109,7 @@ module _ {R : Realm} {t : Tables} {ρ : Reading Event} (f : Follows R t ρ) (kin
       → addOf (t .realm .n) (t .terms) (t .realm .terms) (packed kind l r) ≡ record { answer = a; count = count; table = ts }
       → let o = withAdding t (adding (t .realm) (record { answer = a; count = count; table = ts })) in Matches R (o .tables) (read HD (accepts (o .answer)) (calls.Term kind l r) ρ)
   by-adding (terms.number i) count ts e =
-      record { header-is = f .header-is; agrees = term-agrees (f .together) kind l r size e ρ (f .agrees) (f .header-is) }
+      rw (number-accepts i (count - t .realm .terms)) (record { header-is = f .header-is; agrees = term-agrees (f .together) kind l r size e ρ (f .agrees) (f .header-is) })
   by-adding (terms.refused k) count ts e =
       let same = subst (AddsTerm (t .realm .n) (t .terms) (t .realm .terms) (packed kind l r)) e (adds (f .together .terms-hold) (packed kind l r)) .is in
       rw (same .0, same .1) (kept (calls.Term kind l r) f)
@@ -119,12 +122,10 @@ module _ {R : Realm} {t : Tables} {ρ : Reading Event} (f : Follows R t ρ) (kin
 
 -- ---- any call
 
-call-matches : {R : Realm} (t : Tables) (ρ : Reading Event) (c : Call) → Sized c → Follows R t ρ → Matches R (called t c .tables) (read HD (accepts (called t c .answer)) c ρ)
-unfolding called stepped
+pub call-matches : {R : Realm} (t : Tables) (ρ : Reading Event) (c : Call) → Sized c → Follows R t ρ → Matches R (called t c .tables) (read HD (accepts (called t c .answer)) c ρ)
+unfolding called
 call-matches t ρ (calls.Term kind l r) size f = by-adding f kind l r size _ _ _ refl
-call-matches t ρ (calls.Step step run a b m time) size f =
-    let s : Step = record { step = step; run = run; a = a; b = b; m = m; t = time } in
-    by-verdict f s (decision t s) refl
+call-matches t ρ (calls.Step step run a b m time) size f = step-matches f (record { step = step; run = run; a = a; b = b; m = m; t = time })
 
 pub call-follows : {R : Realm} (t : Tables) (ρ : Reading Event) (c : Call) → Sized c → Follows R t ρ → Follows R (called t c .tables) (read HD (accepts (called t c .answer)) c ρ)
 call-follows t ρ c size f =

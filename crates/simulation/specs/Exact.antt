@@ -1,7 +1,7 @@
--- A call is accepted exactly where the rules take it, and its answer tells the run that its event opened or names. So no condition of
--- a rule could be dropped or added.
+-- A call is accepted exactly where the rules take it, and its answer is told by the reading. So no condition of a rule could be dropped
+-- or added.
 -- Assumes nothing.
-use Prim.Native.Nat.{ℕ, _≤_}
+use Prim.Native.Nat.{ℕ, _+_, _≤_}
 use mathlib.Core.Path.{_≡_, refl, sym, ap, _∙_, subst}
 use mathlib.Core.Bool.{Bool, true, false, cond}
 use mathlib.Core.List.{List}
@@ -15,23 +15,25 @@ use Rattle.terms.specs.Add.{addOf}
 use Rattle.terms.specs.Message.{Message}
 use Rattle.terms.specs.Number.{termsOf}
 use Rattle.messages.specs.Lent.{over}
-use Rattle.messages.specs.Listed.{insert}
+use Rattle.messages.specs.Listed.{insert, addAll}
 use Rattle.messages.specs.Meanings.{meanings}
 use Rattle.sending.specs.Promises.{send-fits}
 use Rattle.sending.specs.Send.{sent, refused, enteredAll, markedAll, fitsIn, sendOf}
 use Rattle.exchange.specs.declared.call.Answer.{Answer}
-use Rattle.exchange.specs.declared.call.Answer.the-variants.{OkRun, Ok}
+use Rattle.exchange.specs.declared.call.Answer.the-variants.{Ok}
 use Rattle.exchange.specs.declared.call.Call.{Call}
 use Rattle.exchange.specs.declared.call.Call.the-variants as calls
-use Rattle.exchange.specs.Calls.{accepts, Sized}
+use Rattle.exchange.specs.declared.call.Names.{Names}
+use Rattle.exchange.specs.Calls.{accepts, addedBy, Sized}
 use Rattle.traces.specs.Engines.{Agrees}
 use Rattle.traces.specs.Realm.{Realm}
-use Rattle.traces.specs.RuleSets.{Reading}
+use Rattle.traces.specs.RuleSets.{Reading, read}
 use Rattle.traces.specs.Terms.{TermsFit, messageFrom}
-use Rattle.kerberos.specs.Log.{Event, Initiate, Respond, Issue, Authenticate, Accept, Finish, Tick, Purge, Leak, Nothing, Act}
+use Rattle.kerberos.specs.Log.{Event, Act}
 use Rattle.kerberos.specs.Messages.{parallel}
 use Rattle.kerberos.specs.Reading.{HD, actOf}
 use Rattle.kerberos.specs.Rules.{Takes, takes-term}
+use Rattle.kerberos.specs.Theorems.{rules-read}
 use Rattle.realm.specs.declared.input.Step.{Step}
 use Rattle.realm.specs.Opening.{header}
 use Rattle.realm.specs.Tables.{Tables, Together}
@@ -42,27 +44,15 @@ use Rattle.decisions.specs.Effects.{messagesOf}
 use Rattle.decisions.specs.Laws.Exact.{took-decided}
 use Rattle.decisions.specs.Laws.Fits.{took-fits}
 use Rattle.decisions.specs.Laws.Took.{Took, took1, took2, took3, took4, took5, took6, took7, took8, took9, took10}
-use Rattle.effects.specs.Apply.{answerOf, applied}
+use Rattle.effects.specs.Apply.{applied}
 use Rattle.effects.specs.Call.{numbered, stepped, called}
 use Rattle.simulation.specs.Back.{takes-took, takes-fits}
 use Rattle.simulation.specs.Engine.{Follows, call-takes}
 use Rattle.simulation.specs.TermsBack.{term-accepted}
+use Rattle.simulation.specs.Told.{namedBy, stepTold, termTold, step-grows, term-told}
 use Rattle.simulation.specs.Values.{valuesOf}
 
--- "`ok` and the run opened by steps 1 to 3 or named in steps 4, 5, 6 and 9, else `-`"
-abbrev pub toldOf : Event → Answer
-toldOf (Initiate r a b) = OkRun r
-toldOf (Respond r a b) = OkRun r
-toldOf (Issue r a b ts n) = OkRun r
-toldOf (Authenticate r a b k ts ta) = OkRun r
-toldOf (Accept r a b k ts ta) = OkRun r
-toldOf (Finish r a b k ts ta) = OkRun r
-toldOf (Tick t) = Ok
-toldOf (Purge b) = Ok
-toldOf (Leak r) = OkRun r
-toldOf Nothing = Ok
-
-took-told : {t : Tables} {c : Call} {e : Event} {x : Effect} → Took t c e x → answerOf (x .names) ≡ toldOf e
+took-told : {t : Tables} {c : Call} {e : Event} {x : Effect} → Took t c e x → x .names ≡ namedBy e
 took-told (took1 p l) = refl
 took-told (took2 p l) = refl
 took-told (took3 d p l) = refl
@@ -93,7 +83,7 @@ module _ {t : Tables} (w : Together t) where
   module _ (ρ : Reading Event) (a : Agrees HD (header (t .realm)) (valuesOf t) ρ) where
     -- a step that the rules take is decided so,
     step-decided : (s : Step) {act : Act} → Takes parallel (header (t .realm)) (ρ .terms) (ρ .log) (calls.Step (s .step) (s .run) (s .a) (s .b) (s .m) (s .t)) act
-        → (x : Effect) × (decision t s ≡ verdicts.Takes x) × (answerOf (x .names) ≡ toldOf (act .0))
+        → (x : Effect) × (decision t s ≡ verdicts.Takes x) × (x .names ≡ namedBy (act .0))
     unfolding decision
     step-decided s {act} k =
         let met = takes-took t ρ w a k in
@@ -101,30 +91,18 @@ module _ {t : Tables} (w : Together t) where
         let fit = room x (met .took) (a .terms-are) (subst (λ (ms : List Message). TermsFit ms (ρ .terms)) (sym (met .sends)) (takes-fits t ρ w a k)) in
         (x, rw (took-decided t w s (met .took), fit), took-told (met .took))
 
-    -- and accepted, with the answer of its event;
+    -- and accepted, with the run of its event;
     pub step-accepted : (s : Step) {act : Act} → Takes parallel (header (t .realm)) (ρ .terms) (ρ .log) (calls.Step (s .step) (s .run) (s .a) (s .b) (s .m) (s .t)) act
-        → stepped t s .answer ≡ toldOf (act .0)
+        → stepped t s .answer ≡ Ok (namedBy (act .0)) (addedBy (stepped t s .answer))
     unfolding stepped applied
-    step-accepted s k = let d = step-decided s k in rw (d .1) (d .2)
+    step-accepted s k = let d = step-decided s k in rw (d .1) (ap (λ (who : Names). Ok who (addedBy (applied t (d .0) .answer))) (d .2))
 
     -- so is a term.
     term-taken : (kind x y : ℕ) → Sized (calls.Term kind x y) → {act : Act} → Takes parallel (header (t .realm)) (ρ .terms) (ρ .log) (calls.Term kind x y) act
-        → accepts (numbered (addOf (t .realm .n) (t .terms) (t .realm .terms) (packed kind x y) .answer)) ≡ true
-    term-taken kind x y size (takes-term {m = m} fields made fit) =
-        term-accepted (w .terms-hold) kind x y size fields (subst (λ (l : List Message). messageFrom l kind x y ≡ some m) (sym (a .terms-are)) made)
+        → (grown : ℕ) → accepts (numbered (addOf (t .realm .n) (t .terms) (t .realm .terms) (packed kind x y) .answer) grown) ≡ true
+    term-taken kind x y size (takes-term {m = m} fields made fit) grown =
+        term-accepted (w .terms-hold) kind x y size fields (subst (λ (l : List Message). messageFrom l kind x y ≡ some m) (sym (a .terms-are)) made) grown
         (subst (λ (l : List Message). length (insert m l) ≤ 512) (sym (a .terms-are)) fit)
-
-told-accepts : (e : Event) → accepts (toldOf e) ≡ true
-told-accepts (Initiate r a b) = refl
-told-accepts (Respond r a b) = refl
-told-accepts (Issue r a b ts n) = refl
-told-accepts (Authenticate r a b k ts ta) = refl
-told-accepts (Accept r a b k ts ta) = refl
-told-accepts (Finish r a b k ts ta) = refl
-told-accepts (Tick t) = refl
-told-accepts (Purge b) = refl
-told-accepts (Leak r) = refl
-told-accepts Nothing = refl
 
 -- ---- any call
 
@@ -144,15 +122,28 @@ module _ {R : Realm} (t : Tables) (ρ : Reading Event) (f : Follows R t ρ) wher
   by-own c {act} k = subst (λ (R : Realm). Takes parallel R (ρ .terms) (ρ .log) c act) (sym (f .header-is)) k
 
   pub step-answer : (step r a b m now : ℕ) {act : Act} → Takes parallel R (ρ .terms) (ρ .log) (calls.Step step r a b m now) act
-      → called t (calls.Step step r a b m now) .answer ≡ toldOf (act .0)
+      → called t (calls.Step step r a b m now) .answer ≡ stepTold (ρ .terms) act
   unfolding called
-  step-answer step r a b m now k =
-      step-accepted (f .together) ρ own (record { step = step; run = r; a = a; b = b; m = m; t = now }) (by-own (calls.Step step r a b m now) k)
+  step-answer step r a b m now {act} k =
+      let c = calls.Step step r a b m now in
+      let told = step-accepted (f .together) ρ own (record { step = step; run = r; a = a; b = b; m = m; t = now }) (by-own c k) in
+      let grows = subst (λ (x : Answer). length (read HD (accepts x) c ρ .terms) ≡ length (ρ .terms) + addedBy x) told (step-grows f step r a b m now) in
+      let acted = ap (λ (x : Act). length (addAll (x .1) (ρ .terms))) (rules-read ρ k) in
+      told ∙ ap (Ok (namedBy (act .0))) (omega (arith, grows, acted))
 
   back : (c : Call) → Sized c → Takable R ρ c → accepts (called t c .answer) ≡ true
   unfolding called
-  back (calls.Term kind x y) size k = term-taken (f .together) ρ own kind x y size (by-own (calls.Term kind x y) (k .takes))
-  back (calls.Step step r a b m now) size k = ap accepts (step-answer step r a b m now (k .takes)) ∙ told-accepts (k .act .0)
+  back (calls.Term kind x y) size k = term-taken (f .together) ρ own kind x y size (by-own (calls.Term kind x y) (k .takes)) _
+  back (calls.Step step r a b m now) size k = ap accepts (step-answer step r a b m now (k .takes))
 
   pub accepted-exact : (c : Call) → Sized c → (accepts (called t c .answer) ≡ true) ↔ Takable R ρ c
   accepted-exact c size = (there c size, back c size)
+
+  -- a term that the rules take is told by the place of its message
+  pub term-answer : (kind x y : ℕ) → Sized (calls.Term kind x y) → {act : Act} {m : Message} → Takes parallel R (ρ .terms) (ρ .log) (calls.Term kind x y) act
+      → messageFrom (ρ .terms) kind x y ≡ some m → called t (calls.Term kind x y) .answer ≡ termTold 0 (ρ .terms) m
+  unfolding called
+  term-answer kind x y size {act} {m} k made =
+      subst (λ (l : List Message). called t (calls.Term kind x y) .answer ≡ termTold 0 l m) (f .agrees .terms-are)
+      (term-told (f .together .terms-hold) kind x y size (subst (λ (l : List Message). messageFrom l kind x y ≡ some m) (sym (f .agrees .terms-are)) made)
+      (back (calls.Term kind x y) size (record { act = act; takes = k })))

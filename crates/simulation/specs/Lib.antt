@@ -16,6 +16,7 @@ pub mod Kept
 pub mod Engine
 pub mod Idle
 pub mod Unread
+pub mod Told
 pub mod Exact
 pub mod Underivable
 pub mod Cases

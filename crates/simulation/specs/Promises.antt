@@ -5,21 +5,23 @@
 -- Kept (of a call). The way back, from the rules to the tables, is Back and TermsBack; both ways together are Exact, and of refusal 15
 -- Underivable. Unread is about places past the counts.
 -- Assumes nothing.
-use Prim.Native.Nat.{ℕ}
+use Prim.Native.Nat.{ℕ, _+_}
 use mathlib.Core.Path.{_≡_, subst}
 use mathlib.Core.Bool.{true}
 use mathlib.Core.List.{List, map}
 use mathlib.Core.Logic.{_↔_}
+use mathlib.Core.Option.{some}
 use lib.ListN.{length, replicate}
-use Rattle.terms.specs.Message.{session, key}
+use Rattle.terms.specs.Message.{session, Message, key}
 use Rattle.exchange.specs.declared.call.Answer.the-variants.{Refused}
 use Rattle.exchange.specs.declared.call.Call.{Call}
-use Rattle.exchange.specs.declared.call.Call.the-variants.{Step}
-use Rattle.exchange.specs.Calls.{accepts, Sized, AllSized}
+use Rattle.exchange.specs.declared.call.Call.the-variants.{Term, Step}
+use Rattle.exchange.specs.Calls.{accepts, addedBy, Sized, AllSized}
 use Rattle.traces.specs.Engines.{Agrees, after, history}
 use Rattle.traces.specs.Promises.{tables-agree}
 use Rattle.traces.specs.Realm.{Realm, HeaderPasses}
-use Rattle.traces.specs.RuleSets.{Reading, reading}
+use Rattle.traces.specs.RuleSets.{Reading, read, reading}
+use Rattle.traces.specs.Terms.{messageFrom}
 use Rattle.kerberos.specs.Agreement.{Demand3}
 use Rattle.kerberos.specs.Log.{Event, Act}
 use Rattle.kerberos.specs.Messages.{parallel}
@@ -32,8 +34,10 @@ use Rattle.effects.specs.Call.{called, checked}
 use Rattle.simulation.specs.Cases.{play, table, cases, cases-start}
 use Rattle.simulation.specs.Engine.{New, Follows, engineOf}
 use Rattle.simulation.specs.Exact as exact
-use Rattle.simulation.specs.Exact.{Takable, toldOf}
+use Rattle.simulation.specs.Exact.{Takable}
 use Rattle.simulation.specs.Idle as idle
+use Rattle.simulation.specs.Told as told
+use Rattle.simulation.specs.Told.{stepTold, termTold}
 use Rattle.simulation.specs.Underivable as underivable
 use Rattle.simulation.specs.Underivable.{Barred}
 use Rattle.simulation.specs.Unread.{Alike, answers-alike, tables-alike}
@@ -49,14 +53,23 @@ pub tables-follow : (R : Realm) (t : Tables) (new : New R t) (cs : List Call) �
     → Agrees HD R (valuesOf (after HD R (engineOf R t new) cs)) (reading HD (history HD R (engineOf R t new) cs))
 tables-follow R t new cs size = tables-agree HD R (engineOf R t new) cs size
 
--- Where the tables follow a reading, a call is accepted exactly where the rules take it, and a step's answer tells the run of its
--- event.
+-- Where the tables follow a reading, a call is accepted exactly where the rules take it, and its answer is told by the reading: a step's
+-- is the run of its event and how many terms it added, a term's its place and whether it is new.
 pub accepted-exact : (R : Realm) (t : Tables) (ρ : Reading Event) → Follows R t ρ → (c : Call) → Sized c → (accepts (called t c .answer) ≡ true) ↔ Takable R ρ c
 accepted-exact R t ρ f c size = exact.accepted-exact t ρ f c size
 
 pub step-answer : (R : Realm) (t : Tables) (ρ : Reading Event) → Follows R t ρ → (step r a b m now : ℕ) {act : Act}
-    → Takes parallel R (ρ .terms) (ρ .log) (Step step r a b m now) act → called t (Step step r a b m now) .answer ≡ toldOf (act .0)
+    → Takes parallel R (ρ .terms) (ρ .log) (Step step r a b m now) act → called t (Step step r a b m now) .answer ≡ stepTold (ρ .terms) act
 step-answer R t ρ f step r a b m now k = exact.step-answer t ρ f step r a b m now k
+
+pub term-answer : (R : Realm) (t : Tables) (ρ : Reading Event) → Follows R t ρ → (kind x y : ℕ) → Sized (Term kind x y) → {act : Act} {m : Message}
+    → Takes parallel R (ρ .terms) (ρ .log) (Term kind x y) act → messageFrom (ρ .terms) kind x y ≡ some m → called t (Term kind x y) .answer ≡ termTold 0 (ρ .terms) m
+term-answer R t ρ f kind x y size k made = exact.term-answer t ρ f kind x y size k made
+
+-- Whatever it is answered, the reading's table grows by as many terms as the answer tells.
+pub terms-grow : (R : Realm) (t : Tables) (ρ : Reading Event) → Follows R t ρ → (c : Call) → Sized c
+    → let answer = called t c .answer in length (read HD (accepts answer) c ρ .terms) ≡ length (ρ .terms) + addedBy answer
+terms-grow R t ρ f c size = told.terms-grow f c size
 
 -- 15 is given exactly where the step can have it, nothing before it applies, and the intruder cannot deliver m.
 pub underivable-exact : (R : Realm) (t : Tables) (ρ : Reading Event) → Follows R t ρ → (step r a b m now : ℕ)

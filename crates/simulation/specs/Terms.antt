@@ -92,16 +92,16 @@ by-fields n ts at (suc (suc (suc (suc (suc kind))))) x y e f = tt
 -- the word w of a term is accepted as number i of ts′, which has `count′` terms
 module _ {n : ℕ} {ts : List ℕ} {count : ℕ} (v : Valid n ts count) (kind x y : ℕ) (size : Sized (Term kind x y)) {i count′ : ℕ} {ts′ : List ℕ}
     (e : addOf n ts count (packed kind x y) ≡ accept i count′ ts′) where
-  valid : Valid n ts′ count′
+  pub valid : Valid n ts′ count′
   valid = subst (λ (o : TermOutcome). Valid n (o .table) (o .count)) e (adds v (packed kind x y) .valid)
 
-  is : (i < count′) × (getD ts′ i 0 ≡ packed kind x y) × Extends n ts count ts′ count′
+  pub is : (i < count′) × (getD ts′ i 0 ≡ packed kind x y) × Extends n ts count ts′ count′
   is = subst (λ (o : TermOutcome). AddedIs n ts count (packed kind x y) (o .answer) (o .count) (o .table)) e (adds v (packed kind x y) .is)
 
-  way : (refusalOf n ts count (packed kind x y) ≡ 0) × (count′ ≤ suc count) × (count < count′ → i ≡ count)
+  pub way : (refusalOf n ts count (packed kind x y) ≡ 0) × (count′ ≤ suc count) × (count < count′ → i ≡ count)
   way = subst (λ (o : TermOutcome). Accepted n ts count (packed kind x y) (o .answer) (o .count)) e (accepted n ts count (packed kind x y))
 
-  older : (k : ℕ) → k < count → messageAt ts k ≡ messageAt ts′ k
+  pub older : (k : ℕ) → k < count → messageAt ts k ≡ messageAt ts′ k
   older = messages-same (v .terms) ts′ (is .2 .agree)
 
   by-term : words.termOf (packed kind x y) ≡ termBy kind x y
@@ -122,6 +122,13 @@ module _ {n : ℕ} {ts : List ℕ} {count : ℕ} (v : Valid n ts count) (kind x 
       (λ k h q. sym (older k h) ∙ key-at (v .terms) k h q ∙ ap (λ (m : Message). key (keyOf m)) (older k h)) kind x y fine
       ∙ ap some (sym (message-at (valid .terms) i (is .0) ∙ ap (λ (w : ℕ). messageOf (messageAt ts′) (words.termOf w)) (is .1) ∙ ap (messageOf (messageAt ts′)) by-term))
 
+  -- where the table has grown, no term before stands for it
+  pub term-fresh : count < count′ → (k : ℕ) → ¬ (termAt (meanings ts count) k ≡ some (messageAt ts′ i))
+  term-fresh more k q =
+      let p = at-meanings ts count k (messageAt ts′ i) q in
+      let z : k ≡ i = messages-once valid k i (omega (arith, p .0)) (is .0) (sym (older k (p .0)) ∙ p .1) in
+      absurd (omega (arith, p .0, way .2 more))
+
   -- it was there, or is the one behind the others
   pub term-inserted : meanings ts′ count′ ≡ insert (messageAt ts′ i) (meanings ts count)
   unfolding meanings
@@ -138,14 +145,9 @@ module _ {n : ℕ} {ts : List ℕ} {count : ℕ} (v : Valid n ts count) (kind x 
           sym (insert-present m (meanings ts′ count′) i (meanings-at ts′ count′ i (is .0))) ∙ ap (insert m) (ap (meanings ts′) q ∙ sym old)
       by-eq (no ne) =
           let more : count < count′ = omega (arith, is .2 .more) in
-          let last : i ≡ count = way .2 more in
-          let fresh : (k : ℕ) → ¬ (termAt (meanings ts′ count) k ≡ some m) = λ k q.
-          let p = at-meanings ts′ count k m q in
-          let z : k ≡ i = messages-once valid k i (omega (arith, p .0)) (is .0) (p .1) in
-          absurd (omega (arith, p .0)) in
           let q : count′ ≡ suc count = omega (arith, way .1) in
-          ap (meanings ts′) q ∙ ap (λ (k : ℕ). meanings ts′ count ++ (messageAt ts′ k ∷ [])) (sym last)
-          ∙ sym (insert-new m (meanings ts′ count) fresh) ∙ ap (insert m) (sym old)
+          ap (meanings ts′) q ∙ ap (λ (k : ℕ). meanings ts′ count ++ (messageAt ts′ k ∷ [])) (sym (way .2 more)) ∙ ap (λ (l : List Message). l ++ (m ∷ [])) (sym old)
+          ∙ sym (insert-new m (meanings ts count) (term-fresh more))
 
   pub term-room : length (insert (messageAt ts′ i) (meanings ts count)) ≤ 512
   term-room = subst (λ (l : List Message). length l ≤ 512) term-inserted (omega (arith, meanings-length ts′ count′, valid .room))

@@ -29,6 +29,7 @@ use Rattle.exchange.specs.declared.call.Call.the-variants.{Term}
 use Rattle.exchange.specs.Calls.{accepts, Sized}
 use Rattle.traces.specs.Terms.{messageFrom, encryptedUnder, given, FieldsFit}
 use Rattle.effects.specs.Call.{numbered}
+use Rattle.effects.specs.Kept.{number-accepts}
 use Rattle.simulation.specs.Terms.{word-term, by-kind}
 
 -- ---- a message that was made has its operands
@@ -130,14 +131,14 @@ module _ {n : ℕ} {ts : List ℕ} {count : ℕ} (v : Valid n ts count) where
         let e = ap length (insert-new m (meanings ts count) (not-there a)) ∙ length-append (meanings ts count) (m ∷ []) in
         omega (arith, e, room, meanings-length ts count)
 
-    by-found : length (insert m (meanings ts count)) ≤ 512 → (f : Found) → FoundIs ts count w f → accepts (numbered (addBy ts count w f .answer)) ≡ true
-    by-found room (found.At i) h = refl
-    by-found room found.Nothing h = by (eqb count 512) refl
+    by-found : (grown : ℕ) → length (insert m (meanings ts count)) ≤ 512 → (f : Found) → FoundIs ts count w f → accepts (numbered (addBy ts count w f .answer) grown) ≡ true
+    by-found grown room (found.At i) h = number-accepts i grown
+    by-found grown room found.Nothing h = by (eqb count 512) refl
       where
-        by : (b : Bool) → eqb count 512 ≡ b → accepts (numbered (cond b (terms.refuse 20 count ts) (terms.accept count (suc count) (set ts count w)) .answer)) ≡ true
+        by : (b : Bool) → eqb count 512 ≡ b → accepts (numbered (cond b (terms.refuse 20 count ts) (terms.accept count (suc count) (set ts count w)) .answer) grown) ≡ true
         by true e = absurd (omega (arith, some-room room h, eqb-true count 512 e))
-        by false e = refl
+        by false e = number-accepts count grown
 
-    pub term-accepted : length (insert m (meanings ts count)) ≤ 512 → accepts (numbered (addOf n ts count w .answer)) ≡ true
+    pub term-accepted : (grown : ℕ) → length (insert m (meanings ts count)) ≤ 512 → accepts (numbered (addOf n ts count w .answer) grown) ≡ true
     unfolding addOf
-    term-accepted room = rw (eq-eqb (refusalOf n ts count w) 0 (passes n ts count w word-passes)) (by-found room (findOf ts count w) (found-is ts count w))
+    term-accepted grown room = rw (eq-eqb (refusalOf n ts count w) 0 (passes n ts count w word-passes)) (by-found grown room (findOf ts count w) (found-is ts count w))

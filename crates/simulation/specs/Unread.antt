@@ -4,7 +4,7 @@
 pub mod Reads
 pub mod Decided
 pub mod Added
-use Prim.Native.Nat.{ℕ, _<_, _≤_}
+use Prim.Native.Nat.{ℕ, _-_, _<_, _≤_}
 use mathlib.Core.Path.{_≡_, refl, sym, ap, ap₂, subst, _∙_}
 use mathlib.Core.List.{List, [], _∷_, _++_}
 use native.Mathlib.Numerals.{add-one}
@@ -15,8 +15,10 @@ use Rattle.words.specs.Word.{packed}
 use Rattle.terms.specs.Add.{addOf}
 use Rattle.terms.specs.Message.{Message}
 use Rattle.terms.specs.Number.{termsOf}
+use Rattle.terms.specs.Outcome.{TermAnswer}
 use Rattle.sending.specs.Send.{enteredAll, markedAll}
 use Rattle.exchange.specs.declared.run.Row.{Row}
+use Rattle.exchange.specs.declared.call.Answer.the-variants.{Ok}
 use Rattle.exchange.specs.declared.call.Call.{Call}
 use Rattle.exchange.specs.declared.call.Call.the-variants as calls
 use Rattle.replay.specs.Cache.{kept, entries}
@@ -69,19 +71,6 @@ module _ (h : Realm) {ts ts′ rs rs′ : List ℕ} (ws : List ℕ) {c c′ : Li
   abbrev other : Tables
   other = tables h ts′ rs′ ws c′
 
-  -- ---- the answer
-
-  verdict-answer : (v : Verdict) → byVerdict one v .answer ≡ byVerdict other v .answer
-  unfolding applied
-  verdict-answer (Refused k) = refl
-  verdict-answer (Takes x) = refl
-
-  step-answer : (s : Step) → stepped one s .answer ≡ stepped other s .answer
-  unfolding stepped
-  step-answer s = ap (λ (v : Verdict). byVerdict one v .answer) (decision-same h ws w w′ same-terms same-rows same-entries s) ∙ verdict-answer (decision other s)
-
-  -- ---- the tables after a step
-
   -- the terms with these messages entered
   abbrev xs : List Message → List ℕ
   xs ms = enteredAll (termsOf ts (h .terms)) ms
@@ -91,6 +80,19 @@ module _ (h : Realm) {ts ts′ rs rs′ : List ℕ} (ws : List ℕ) {c c′ : Li
 
   entered-same : (ms : List Message) → xs ms ≡ xs′ ms
   entered-same ms = ap (λ (l : List ℕ). enteredAll l ms) same-terms
+
+  -- ---- the answer
+
+  verdict-answer : (v : Verdict) → byVerdict one v .answer ≡ byVerdict other v .answer
+  unfolding applied
+  verdict-answer (Refused k) = refl
+  verdict-answer (Takes x) = ap (λ (l : List ℕ). Ok (x .names) (length l - h .terms)) (entered-same (messagesOf (x .sends)))
+
+  step-answer : (s : Step) → stepped one s .answer ≡ stepped other s .answer
+  unfolding stepped
+  step-answer s = ap (λ (v : Verdict). byVerdict one v .answer) (decision-same h ws w w′ same-terms same-rows same-entries s) ∙ verdict-answer (decision other s)
+
+  -- ---- the tables after a step
 
   -- a row that is written has the widths of a row's fields
   byte-row : {ms : List Message} {r : ℕ} {x : Row} → RowFits (h .n) ms r x → Fits x
@@ -160,7 +162,7 @@ module _ (h : Realm) {ts ts′ rs rs′ : List ℕ} (ws : List ℕ) {c c′ : Li
 
   one-answer : (x : Call) → called one x .answer ≡ called other x .answer
   unfolding called
-  one-answer (calls.Term kind l r) = ap numbered (adding-same (packed kind l r) .answer)
+  one-answer (calls.Term kind l r) = let o = adding-same (packed kind l r) in ap₂ (λ (a : TermAnswer) (k : ℕ). numbered a (k - h .terms)) (o .answer) (o .count)
   one-answer (calls.Step step r a b m now) = step-answer (record { step = step; run = r; a = a; b = b; m = m; t = now })
 
   one-alike : (x : Call) → Alike (called one x .tables) (called other x .tables)

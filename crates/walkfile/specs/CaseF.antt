@@ -33,7 +33,7 @@ use Rattle.records.specs.Fields.{begins}
 use Rattle.exchange.specs.Formats.{formats, rowOf}
 use Rattle.records.specs.Headers.{headerWidth, headerOf}
 use Rattle.records.specs.Records.{frontOf}
-use Rattle.fields.specs.Fields.{ascii, decimalBy, decimal, markText, answerText}
+use Rattle.fields.specs.Fields.{ascii, decimalBy, decimal, markText, namesText, answerText}
 use Rattle.lines.specs.Lines.{headerLine, callLine, fileLine, endLine}
 use Rattle.walkfile.specs.Listing.{newTables, tablesLine, lastLines, callLines, walkLines, listingOf}
 
@@ -56,12 +56,12 @@ abbrev pub file : List ℕ
 file = first7 ++ st 6 0 0 0 18 0 ++ st 2 0 1 2 0 0 ++ st 5 3 0 0 17 0
 
 pub printed : listingOf file
-    ≡ ascii "0 HD ok\n1 ST ok 0\n2 ST ok 1\n3 ST ok 0\n4 ST ok 2\n5 TM 17\n6 ST ok 2\n7 ST ok 0\n8 ST ok 3\n9 ST refused 18\nend runs 4 wire 5 cache 1 clock 0\n"
-unfolding listingOf headerOf formats rowOf headerWidth begins openingOf headerRefusal headerFits walkLines newTables callsOf callsWithin frontOf callLines lastLines tablesLine headerLine callLine markText answerText endLine decimal decimalBy called stepped decision decided stepOf opensRun issues authenticates takes finishes ticks queries admission inputRefusal usesTable inRange needTable runAt setRun derivableOf composesOf saturateOf descend layers sweepOf visitOf marked mark withMark size sum isSet bit setBit termOf wordOf messageAt refusalOf findOf addOf place wordIn withWord entered sendOf applied present stays kept written requestIn replyIn ticketIn authenticatorIn deliveryIn confirmationIn ofKind layer _▸_
+    ≡ ascii "0 HD ok\n1 ST ok 0 +5\n2 ST ok 1 +11\n3 ST ok 0 +1\n4 ST ok 2 +0\n5 TM 17 new\n6 ST ok 2 +1\n7 ST ok 0 +0\n8 ST ok 3 +0\n9 ST refused 18\nend runs 4 wire 5 cache 1 clock 0\n"
+unfolding listingOf headerOf formats rowOf headerWidth begins openingOf headerRefusal headerFits walkLines newTables callsOf callsWithin frontOf callLines lastLines tablesLine headerLine callLine markText namesText answerText endLine decimal decimalBy called stepped decision decided stepOf opensRun issues authenticates takes finishes ticks queries admission inputRefusal usesTable inRange needTable runAt setRun derivableOf composesOf saturateOf descend layers sweepOf visitOf marked mark withMark size sum isSet bit setBit termOf wordOf messageAt refusalOf findOf addOf place wordIn withWord entered sendOf applied present stays kept written requestIn replyIn ticketIn authenticatorIn deliveryIn confirmationIn ofKind layer _▸_
 printed = refl
 
 -- the same file cut off within its record 7: "After 1, 2 or 3 reading ends"
 pub cut-short : listingOf (first7 ++ ascii "ST")
-    ≡ ascii "0 HD ok\n1 ST ok 0\n2 ST ok 1\n3 ST ok 0\n4 ST ok 2\n5 TM 17\n6 ST ok 2\n7 file refused 3\nend runs 3 wire 5 cache 1 clock 0\n"
-unfolding listingOf headerOf formats rowOf headerWidth begins openingOf headerRefusal headerFits walkLines newTables callsOf callsWithin frontOf callLines lastLines tablesLine headerLine callLine markText answerText fileLine endLine decimal decimalBy called stepped decision decided stepOf opensRun issues authenticates takes finishes ticks queries admission inputRefusal usesTable inRange needTable runAt setRun derivableOf composesOf saturateOf descend layers sweepOf visitOf marked mark withMark size sum isSet bit setBit termOf wordOf messageAt refusalOf findOf addOf place wordIn withWord entered sendOf applied present stays kept written requestIn replyIn ticketIn authenticatorIn deliveryIn confirmationIn ofKind layer _▸_
+    ≡ ascii "0 HD ok\n1 ST ok 0 +5\n2 ST ok 1 +11\n3 ST ok 0 +1\n4 ST ok 2 +0\n5 TM 17 new\n6 ST ok 2 +1\n7 file refused 3\nend runs 3 wire 5 cache 1 clock 0\n"
+unfolding listingOf headerOf formats rowOf headerWidth begins openingOf headerRefusal headerFits walkLines newTables callsOf callsWithin frontOf callLines lastLines tablesLine headerLine callLine markText namesText answerText fileLine endLine decimal decimalBy called stepped decision decided stepOf opensRun issues authenticates takes finishes ticks queries admission inputRefusal usesTable inRange needTable runAt setRun derivableOf composesOf saturateOf descend layers sweepOf visitOf marked mark withMark size sum isSet bit setBit termOf wordOf messageAt refusalOf findOf addOf place wordIn withWord entered sendOf applied present stays kept written requestIn replyIn ticketIn authenticatorIn deliveryIn confirmationIn ofKind layer _▸_
 cut-short = refl

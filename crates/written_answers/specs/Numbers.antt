@@ -30,6 +30,7 @@ use Rattle.decisions.specs.Promises.{fields-refuse, state-refusals}
 use Rattle.decisions.specs.Refusals.{refusalsOf}
 use Rattle.effects.specs.Apply.{refuse}
 use Rattle.effects.specs.Call.{numbered, stepped, called}
+use Rattle.effects.specs.Kept.{never, number-accepts}
 use Rattle.effects.specs.Promises.{step-refused}
 use Rattle.raw_records.specs.Apart.{fieldsRefusal}
 
@@ -42,17 +43,17 @@ same-number e = cc
 
 -- ---- TM: behind its fields only 20 is left
 
-by-search : (ts : List ℕ) (count w : ℕ) (f : Found) {k : ℕ} → numbered (addBy ts count w f .answer) ≡ Refused k → 11 ≤ k
-by-search ts count w (found.At i) e = let z : _≡_ {A = ℕ} 0 1 = cc in absurd (omega arith)
-by-search ts count w found.Nothing {k} e =
-    cond-elim (λ (o : terms.TermOutcome). numbered (o .answer) ≡ Refused k → 11 ≤ k) (eqb count 512) (terms.refuse 20 count ts) (terms.accept count (suc count) _)
-    (λ _ q. let is = same-number q in omega arith) (λ _ q. let z : _≡_ {A = ℕ} 0 1 = cc in absurd (omega arith)) e
+by-search : (ts : List ℕ) (count w : ℕ) (f : Found) (grown : ℕ) {k : ℕ} → numbered (addBy ts count w f .answer) grown ≡ Refused k → 11 ≤ k
+by-search ts count w (found.At i) grown e = never _ (number-accepts i grown) e
+by-search ts count w found.Nothing grown {k} e =
+    cond-elim (λ (o : terms.TermOutcome). numbered (o .answer) grown ≡ Refused k → 11 ≤ k) (eqb count 512) (terms.refuse 20 count ts) (terms.accept count (suc count) _)
+    (λ _ q. let is = same-number q in omega arith) (λ _ q. never _ (number-accepts count grown) q) e
 
-term-number : (n : ℕ) (ts : List ℕ) (count w : ℕ) {k : ℕ} → numbered (addOf n ts count w .answer) ≡ Refused k → ByFields (refusalOf n ts count w) k
+term-number : (n : ℕ) (ts : List ℕ) (count w grown : ℕ) {k : ℕ} → numbered (addOf n ts count w .answer) grown ≡ Refused k → ByFields (refusalOf n ts count w) k
 unfolding addOf
-term-number n ts count w {k} =
-    cond-elim (λ (o : terms.TermOutcome). numbered (o .answer) ≡ Refused k → ByFields (refusalOf n ts count w) k) (eqb (refusalOf n ts count w) 0)
-    (addBy ts count w (findOf ts count w)) (terms.refuse (refusalOf n ts count w) count ts) (λ _ e. inr (by-search ts count w (findOf ts count w) e))
+term-number n ts count w grown {k} =
+    cond-elim (λ (o : terms.TermOutcome). numbered (o .answer) grown ≡ Refused k → ByFields (refusalOf n ts count w) k) (eqb (refusalOf n ts count w) 0)
+    (addBy ts count w (findOf ts count w)) (terms.refuse (refusalOf n ts count w) count ts) (λ _ e. inr (by-search ts count w (findOf ts count w) grown e))
     (λ q e. inl (sym (same-number e), eqb-false (refusalOf n ts count w) 0 q))
 
 -- ---- ST: behind its fields are the refusals of the state
@@ -96,7 +97,7 @@ step-number t s {k} e = on (ℕ-discrete (inputRefusal (t .realm) s) 0)
 
 pub call-number : (t : Tables) (c : Call) {k : ℕ} → called t c .answer ≡ Refused k → ByFields (fieldsRefusal (t .realm) (t .terms) c) k
 unfolding called
-call-number t (calls.Term kind l r) e = term-number (t .realm .n) (t .terms) (t .realm .terms) (packed kind l r) e
+call-number t (calls.Term kind l r) e = term-number (t .realm .n) (t .terms) (t .realm .terms) (packed kind l r) _ e
 call-number t (calls.Step step run a b m time) e = step-number t _ e
 
 pub fields-told : (t : Tables) (c : Call) → (fieldsRefusal (t .realm) (t .terms) c ≡ 0 → ⊥) → called t c ≡ refuse t (fieldsRefusal (t .realm) (t .terms) c)
