@@ -38,9 +38,10 @@ pub fn listing(file: &[u8]) -> String {
 
 fn accepted(number: usize, mark: &str, answer: Answer) -> String {
     match answer {
-        Answer::Term(term) => format!("{number} {mark} {term}\n"),
-        Answer::Run(run) => format!("{number} {mark} ok {run}\n"),
-        Answer::Done => format!("{number} {mark} ok -\n"),
+        Answer::Old(term) => format!("{number} {mark} {term} old\n"),
+        Answer::New(term) => format!("{number} {mark} {term} new\n"),
+        Answer::Step { run: Some(run), added } => format!("{number} {mark} ok {run} +{added}\n"),
+        Answer::Step { run: None, added } => format!("{number} {mark} ok - +{added}\n"),
     }
 }
 

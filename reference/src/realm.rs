@@ -64,9 +64,12 @@ pub struct Realm {
 /// What an accepted record prints.
 #[derive(Clone, Copy, Debug, PartialEq, Eq)]
 pub enum Answer {
-    Term(u16),
-    Run(usize),
-    Done,
+    /// The number of a term that was present.
+    Old(u16),
+    /// The number of a term that was added.
+    New(u16),
+    /// A step: the run that it names, if any, and how many terms it added.
+    Step { run: Option<usize>, added: usize },
 }
 
 impl Realm {
@@ -88,7 +91,9 @@ impl Realm {
             Record::Term(record) => self.add_term(record),
             Record::Step(record) => {
                 self.check_step(record)?;
-                self.take_step(record)
+                let before = self.terms.count();
+                let run = self.take_step(record)?;
+                Ok(Answer::Step { run, added: self.terms.count() - before })
             }
         }
     }
@@ -101,14 +106,14 @@ impl Realm {
     fn add_term(&mut self, record: &TermRecord) -> Result<Answer, Refusal> {
         let message = self.term_of(record)?;
         if let Some(number) = self.terms.number(&message) {
-            return Ok(Answer::Term(number));
+            return Ok(Answer::Old(number));
         }
         let missing = self.terms.missing(&[message]);
         if !self.terms.has_room_for(missing.len()) {
             return Err(Refusal::TermsFull);
         }
         self.terms.add(missing);
-        Ok(Answer::Term(self.terms.count() as u16 - 1))
+        Ok(Answer::New(self.terms.count() as u16 - 1))
     }
 
     /// The message that a TM record names; refusals 4, 5 and 6.

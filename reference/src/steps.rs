@@ -2,7 +2,7 @@
 //! The fields of the record have passed the refusals 4, 5 and 6 before.
 
 use crate::file::StepRecord;
-use crate::realm::{Answer, Entry, Held, Realm, Role, Run, Stage, MAX_ENTRIES, MAX_RUNS};
+use crate::realm::{Entry, Held, Realm, Role, Run, Stage, MAX_ENTRIES, MAX_RUNS};
 use crate::refusal::Refusal;
 use crate::terms::{Message, Shape};
 
@@ -20,8 +20,11 @@ struct Ticket {
     time: u32,
 }
 
+/// An accepted step names a run, or none.
+type Taken = Result<Option<usize>, Refusal>;
+
 impl Realm {
-    pub(crate) fn take_step(&mut self, record: &StepRecord) -> Result<Answer, Refusal> {
+    pub(crate) fn take_step(&mut self, record: &StepRecord) -> Taken {
         let run = usize::from(record.run);
         let message = self.terms.at(record.message).cloned();
         let message = || message.ok_or(Refusal::BadReference);
@@ -35,13 +38,13 @@ impl Realm {
             7 => self.set_clock(record.time),
             8 => self.forget(record.b),
             9 => self.leak(run),
-            10 => self.check_derivable(&message()?).map(|()| Answer::Done),
+            10 => self.check_derivable(&message()?).map(|()| None),
             _ => Err(Refusal::UnknownOperation),
         }
     }
 
     /// Step 1 opens an initiator run r and sends [a, b, nonce r].
-    fn open_initiator(&mut self, a: u8, b: u8) -> Result<Answer, Refusal> {
+    fn open_initiator(&mut self, a: u8, b: u8) -> Taken {
         self.check_room_for_run()?;
         let nonce = Shape::Nonce(self.next_run());
         let request = self.terms.list(&[Shape::Principal(a), Shape::Principal(b), nonce]);
@@ -50,14 +53,14 @@ impl Realm {
     }
 
     /// Step 2 opens a responder run of b for a.
-    fn open_responder(&mut self, a: u8, b: u8) -> Result<Answer, Refusal> {
+    fn open_responder(&mut self, a: u8, b: u8) -> Taken {
         self.check_room_for_run()?;
         Ok(self.open(Run { role: Role::Responder, a, b, stage: Stage::Opened, held: None }))
     }
 
     /// Step 3 opens a server run r; K is session key r, Ts the clock. It sends
     /// {K, b, Ts, N} under a's key, then {K, a, Ts} under b's key.
-    fn serve(&mut self, message: &Message) -> Result<Answer, Refusal> {
+    fn serve(&mut self, message: &Message) -> Taken {
         self.check_room_for_run()?;
         let Request { a, b, nonce } = read_request(message).ok_or(Refusal::WrongForm)?;
         self.check_derivable(message)?;
@@ -73,7 +76,7 @@ impl Realm {
 
     /// Step 4 takes {K, b, Ts, own nonce} under a's key; Ta becomes the clock.
     /// It sends {a, Ta}K.
-    fn initiator_takes_key(&mut self, run: usize, message: &Message) -> Result<Answer, Refusal> {
+    fn initiator_takes_key(&mut self, run: usize, message: &Message) -> Taken {
         let Run { a, b, .. } = self.check_run(run, Role::Initiator, Stage::Opened)?;
         let ticket = read_initiator_part(message, a, b, run).ok_or(Refusal::WrongForm)?;
         self.check_derivable(message)?;
@@ -83,12 +86,12 @@ impl Realm {
         let authenticator = self.encrypted_list(&authenticator, key);
         self.send(vec![authenticator])?;
         self.hold(run, Stage::AfterStep4, ticket, self.clock);
-        Ok(Answer::Run(run))
+        Ok(Some(run))
     }
 
     /// Step 5 takes the pair of {K, a, Ts} under b's key and {a, Ta}K. It
     /// remembers b, K, Ta and sends {Ta}K.
-    fn responder_accepts(&mut self, run: usize, message: &Message) -> Result<Answer, Refusal> {
+    fn responder_accepts(&mut self, run: usize, message: &Message) -> Taken {
         let Run { a, b, .. } = self.check_run(run, Role::Responder, Stage::Opened)?;
         let (ticket, ta) = read_delivery(message, a, b).ok_or(Refusal::WrongForm)?;
         self.check_derivable(message)?;
@@ -108,11 +111,11 @@ impl Realm {
         self.send(vec![answer])?;
         self.cache.push(entry);
         self.hold(run, Stage::Done, ticket, ta);
-        Ok(Answer::Run(run))
+        Ok(Some(run))
     }
 
     /// Step 6 takes {Ta}K with the run's own values; the run is done.
-    fn initiator_finishes(&mut self, run: usize, message: &Message) -> Result<Answer, Refusal> {
+    fn initiator_finishes(&mut self, run: usize, message: &Message) -> Taken {
         let held = self.check_run(run, Role::Initiator, Stage::AfterStep4)?.held;
         let held = held.ok_or(Refusal::WrongStage)?;
         if read_answer(message) != Some((held.session_key, held.authenticator_time)) {
@@ -121,20 +124,20 @@ impl Realm {
         self.check_derivable(message)?;
         self.check_ticket_alive(held.ticket_time)?;
         self.runs[run].stage = Stage::Done;
-        Ok(Answer::Run(run))
+        Ok(Some(run))
     }
 
     /// Step 7.
-    fn set_clock(&mut self, time: u32) -> Result<Answer, Refusal> {
+    fn set_clock(&mut self, time: u32) -> Taken {
         if time < self.clock {
             return Err(Refusal::ClockBack);
         }
         self.clock = time;
-        Ok(Answer::Done)
+        Ok(None)
     }
 
     /// Step 8 forgets b's entries whose Ta + La is at or below the clock.
-    fn forget(&mut self, b: u8) -> Result<Answer, Refusal> {
+    fn forget(&mut self, b: u8) -> Taken {
         let mut kept = Vec::new();
         for entry in &self.cache {
             let over = self.is_over(entry.authenticator_time, self.settings.authenticator_life);
@@ -143,16 +146,16 @@ impl Realm {
             }
         }
         self.cache = kept;
-        Ok(Answer::Done)
+        Ok(None)
     }
 
     /// Step 9 puts a server run's key on the wire.
-    fn leak(&mut self, run: usize) -> Result<Answer, Refusal> {
+    fn leak(&mut self, run: usize) -> Taken {
         let held = self.check_run(run, Role::Server, Stage::Done)?.held;
         let held = held.ok_or(Refusal::WrongStage)?;
         let key = self.terms.make(Shape::SessionKey(held.session_key));
         self.send(vec![key])?;
-        Ok(Answer::Run(run))
+        Ok(Some(run))
     }
 }
 
@@ -197,9 +200,10 @@ impl Realm {
         self.runs.len() as u8
     }
 
-    fn open(&mut self, run: Run) -> Answer {
+    /// Opens the run and names it.
+    fn open(&mut self, run: Run) -> Option<usize> {
         self.runs.push(run);
-        Answer::Run(self.runs.len() - 1)
+        Some(self.runs.len() - 1)
     }
 
     fn hold(&mut self, run: usize, stage: Stage, ticket: Ticket, ta: u32) {

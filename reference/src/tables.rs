@@ -128,13 +128,13 @@ impl Tables {
         Ok(realm)
     }
 
-    /// Each term, added to those before it, gets the number of its place:
-    /// another answer is a broken rule or a term that stands twice.
+    /// Each term, added to those before it, is new: another answer is a broken
+    /// rule or a term that stands twice.
     fn read_terms(&self, realm: &mut Realm) -> Result<(), Refusal> {
         for (place, word) in self.terms[..self.counts.terms].iter().enumerate() {
             holds(word >> 32 <= 6)?;
             let added = realm.apply(&Record::Term(term_record(*word)));
-            holds(added == Ok(Answer::Term(place as u16)))?;
+            holds(added == Ok(Answer::New(place as u16)))?;
         }
         Ok(())
     }

@@ -25,14 +25,14 @@ fn case_f_prints_the_listing_of_the_paper() {
     );
     let expected = "\
 0 HD ok
-1 ST ok 0
-2 ST ok 1
-3 ST ok 0
-4 ST ok 2
-5 TM 17
-6 ST ok 2
-7 ST ok 0
-8 ST ok 3
+1 ST ok 0 +5
+2 ST ok 1 +11
+3 ST ok 0 +1
+4 ST ok 2 +0
+5 TM 17 new
+6 ST ok 2 +1
+7 ST ok 0 +0
+8 ST ok 3 +0
 9 ST refused 18
 end runs 4 wire 5 cache 1 clock 0
 ";
@@ -43,14 +43,14 @@ end runs 4 wire 5 cache 1 clock 0
 fn case_a_at_step_4() {
     let beginning = "
         HD n=3 Ls=100 La=10 => ok
-        ST 1 a=1 b=2 => ok 0
-        ST 3 m=4     => ok 1";
+        ST 1 a=1 b=2 => ok 0 +5
+        ST 3 m=4     => ok 1 +11";
     check_each(
         beginning,
         &[
-            "ST 7 t=99  => ok -
-         ST 4 run=0 m=11 => ok 0",
-            "ST 7 t=100 => ok -
+            "ST 7 t=99  => ok - +0
+         ST 4 run=0 m=11 => ok 0 +3",
+            "ST 7 t=100 => ok - +0
          ST 4 run=0 m=11 => refused 16",
         ],
     );
@@ -60,17 +60,17 @@ fn case_a_at_step_4() {
 fn case_a_at_step_5() {
     let beginning = "
         HD n=3 Ls=100 La=1000 => ok
-        ST 1 a=1 b=2    => ok 0
-        ST 3 m=4        => ok 1
-        ST 4 run=0 m=11 => ok 0
-        ST 2 a=1 b=2    => ok 2
-        TM 5 L=15 R=16  => 17";
+        ST 1 a=1 b=2    => ok 0 +5
+        ST 3 m=4        => ok 1 +11
+        ST 4 run=0 m=11 => ok 0 +1
+        ST 2 a=1 b=2    => ok 2 +0
+        TM 5 L=15 R=16  => 17 new";
     check_each(
         beginning,
         &[
-            "ST 7 t=99  => ok -
-         ST 5 run=2 m=17 => ok 2",
-            "ST 7 t=100 => ok -
+            "ST 7 t=99  => ok - +0
+         ST 5 run=2 m=17 => ok 2 +1",
+            "ST 7 t=100 => ok - +0
          ST 5 run=2 m=17 => refused 16",
         ],
     );
@@ -78,13 +78,13 @@ fn case_a_at_step_5() {
 
 #[test]
 fn case_a_at_step_6() {
-    let beginning = format!("{EXCHANGE}\nST 5 run=2 m=17 => ok 2");
+    let beginning = format!("{EXCHANGE}\nST 5 run=2 m=17 => ok 2 +1");
     check_each(
         &beginning,
         &[
-            "ST 7 t=99  => ok -
-         ST 6 run=0 m=18 => ok 0",
-            "ST 7 t=100 => ok -
+            "ST 7 t=99  => ok - +0
+         ST 6 run=0 m=18 => ok 0 +0",
+            "ST 7 t=100 => ok - +0
          ST 6 run=0 m=18 => refused 16",
         ],
     );
@@ -95,9 +95,9 @@ fn case_b_at_step_5() {
     check_each(
         EXCHANGE,
         &[
-            "ST 7 t=9  => ok -
-         ST 5 run=2 m=17 => ok 2",
-            "ST 7 t=10 => ok -
+            "ST 7 t=9  => ok - +0
+         ST 5 run=2 m=17 => ok 2 +1",
+            "ST 7 t=10 => ok - +0
          ST 5 run=2 m=17 => refused 17",
         ],
     );
@@ -105,15 +105,15 @@ fn case_b_at_step_5() {
 
 #[test]
 fn case_c_at_step_8() {
-    let beginning = format!("{EXCHANGE}\nST 5 run=2 m=17 => ok 2");
+    let beginning = format!("{EXCHANGE}\nST 5 run=2 m=17 => ok 2 +1");
     check_each(
         &beginning,
         &[
-            "ST 7 t=9  => ok -
-         ST 8 b=2 => ok -
+            "ST 7 t=9  => ok - +0
+         ST 8 b=2 => ok - +0
          end runs 3 wire 5 cache 1 clock 9",
-            "ST 7 t=10 => ok -
-         ST 8 b=2 => ok -
+            "ST 7 t=10 => ok - +0
+         ST 8 b=2 => ok - +0
          end runs 3 wire 5 cache 0 clock 10",
         ],
     );
@@ -123,8 +123,8 @@ fn case_c_at_step_8() {
 fn case_d_at_step_7() {
     check(
         "HD n=3 Ls=1 La=1 => ok
-         ST 7 t=5 => ok -
-         ST 7 t=5 => ok -
+         ST 7 t=5 => ok - +0
+         ST 7 t=5 => ok - +0
          ST 7 t=4 => refused 12
          end runs 0 wire 0 cache 0 clock 5",
     );
@@ -134,17 +134,17 @@ fn case_d_at_step_7() {
 fn case_e_as_a_walk() {
     check(
         "HD n=3 flags=0x0002 Ls=1 La=1 => ok
-         TM 1 => 0
-         TM 0 L=0 => 1
-         TM 0 L=2 => 2
-         TM 5 L=1 R=2 => 3
-         TM 3 L=2 => 4
-         TM 3 L=1 => 5
-         TM 3 L=0 => 6
-         ST 10 m=0 => ok -
-         ST 10 m=3 => ok -
+         TM 1 => 0 new
+         TM 0 L=0 => 1 new
+         TM 0 L=2 => 2 new
+         TM 5 L=1 R=2 => 3 new
+         TM 3 L=2 => 4 new
+         TM 3 L=1 => 5 new
+         TM 3 L=0 => 6 new
+         ST 10 m=0 => ok - +0
+         ST 10 m=3 => ok - +0
          ST 10 m=4 => refused 15   # key of a good principal
-         ST 10 m=5 => ok -         # key of a bad one
+         ST 10 m=5 => ok - +0      # key of a bad one
          ST 10 m=6 => refused 15   # the server's key
          end runs 0 wire 0 cache 0 clock 0",
     );

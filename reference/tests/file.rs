@@ -92,10 +92,10 @@ fn numbers_are_high_byte_first() {
     ];
     let expected = "\
 0 HD ok
-1 ST ok -
-2 TM 0
-3 TM 1
-4 ST ok -
+1 ST ok - +0
+2 TM 0 new
+3 TM 1 new
+4 ST ok - +0
 5 ST refused 6
 end runs 0 wire 0 cache 0 clock 16909060
 ";
@@ -119,7 +119,7 @@ fn broken_records_end_reading_with_a_last_line() {
         b"RG\0\0\0\0\0\0\0\0\0\0\0",
     ] {
         let file = [walk(&format!("{HEADER}\nTM 9\nST 7 t=3")), rest.to_vec()].concat();
-        let expected = "0 HD ok\n1 TM refused 4\n2 ST ok -\n3 file refused 3\n";
+        let expected = "0 HD ok\n1 TM refused 4\n2 ST ok - +0\n3 file refused 3\n";
         assert_eq!(listing(&file), format!("{expected}end runs 0 wire 0 cache 0 clock 3\n"));
     }
 }
@@ -144,9 +144,9 @@ fn reading_goes_on_after_other_refusals() {
          ST 0            => refused 4
          ST 7 a=1 t=9    => refused 5
          TM 0 L=3        => refused 6
-         ST 7 t=2        => ok -
+         ST 7 t=2        => ok - +0
          ST 7 t=1        => refused 12
-         ST 7 t=3        => ok -
+         ST 7 t=3        => ok - +0
          end runs 0 wire 0 cache 0 clock 3",
     );
 }
@@ -181,7 +181,7 @@ fn a_file_of_65536_bytes_in_whole_records_is_read() {
     }
     assert_eq!(file.len(), 65_536);
     let listing = listing(&file);
-    assert!(listing.ends_with("5464 ST ok -\nend runs 0 wire 0 cache 0 clock 1\n"));
+    assert!(listing.ends_with("5464 ST ok - +0\nend runs 0 wire 0 cache 0 clock 1\n"));
 }
 
 #[test]

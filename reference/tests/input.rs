@@ -46,11 +46,11 @@ fn kinds_with_one_operand_do_not_use_the_other() {
 fn times_use_both_operands() {
     check(
         "HD n=3 Ls=1 La=1 => ok
-         TM 1 L=0 R=0 => 0
-         TM 1 L=65535 R=65535 => 1
-         TM 1 L=0 R=1 => 2
-         TM 1 L=1 R=0 => 3
-         TM 1 L=0 R=1 => 2",
+         TM 1 L=0 R=0 => 0 new
+         TM 1 L=65535 R=65535 => 1 new
+         TM 1 L=0 R=1 => 2 new
+         TM 1 L=1 R=0 => 3 new
+         TM 1 L=0 R=1 => 2 old",
     );
 }
 
@@ -111,13 +111,13 @@ fn high_bytes_of_unused_fields_count() {
 fn terms_with_bad_references() {
     let beginning = "
         HD n=3 Ls=1 La=1 => ok
-        TM 0 L=2 => 0
-        TM 4 L=0 => 1
-        TM 3 L=0 => 2
-        TM 2 L=0 => 3
-        TM 1 L=0 => 4
-        TM 5 L=0 R=0 => 5
-        TM 6 L=0 R=1 => 6";
+        TM 0 L=2 => 0 new
+        TM 4 L=0 => 1 new
+        TM 3 L=0 => 2 new
+        TM 2 L=0 => 3 new
+        TM 1 L=0 => 4 new
+        TM 5 L=0 R=0 => 5 new
+        TM 6 L=0 R=1 => 6 new";
     check_each(
         beginning,
         &[
@@ -145,18 +145,18 @@ fn terms_with_bad_references() {
 fn terms_at_the_ends_of_their_ranges() {
     check(
         "HD n=3 Ls=1 La=1 => ok
-         TM 0 L=0 => 0
-         TM 0 L=2 => 1
-         TM 2 L=0 => 2
-         TM 2 L=95 => 3
-         TM 3 L=0 => 4
-         TM 3 L=2 => 5
-         TM 4 L=0 => 6
-         TM 4 L=95 => 7
-         TM 5 L=7 R=7 => 8
-         TM 6 L=8 R=7 => 9
-         TM 6 L=7 R=7 => 10
-         TM 6 L=9 R=4 => 11",
+         TM 0 L=0 => 0 new
+         TM 0 L=2 => 1 new
+         TM 2 L=0 => 2 new
+         TM 2 L=95 => 3 new
+         TM 3 L=0 => 4 new
+         TM 3 L=2 => 5 new
+         TM 4 L=0 => 6 new
+         TM 4 L=95 => 7 new
+         TM 5 L=7 R=7 => 8 new
+         TM 6 L=8 R=7 => 9 new
+         TM 6 L=7 R=7 => 10 new
+         TM 6 L=9 R=4 => 11 new",
     );
 }
 
@@ -165,10 +165,10 @@ fn an_operand_is_an_earlier_term() {
     check(
         "HD n=3 Ls=1 La=1 => ok
          TM 5 L=0 R=0 => refused 6
-         TM 4 L=0 => 0
+         TM 4 L=0 => 0 new
          TM 5 L=1 R=0 => refused 6
-         TM 5 L=0 R=0 => 1
-         TM 6 L=0 R=0 => 2",
+         TM 5 L=0 R=0 => 1 new
+         TM 6 L=0 R=0 => 2 new",
     );
 }
 
@@ -176,32 +176,32 @@ fn an_operand_is_an_earlier_term() {
 fn no_term_stands_twice() {
     check(
         "HD n=3 Ls=1 La=1 => ok
-         TM 0 L=1 => 0
-         TM 4 L=1 => 1
-         TM 2 L=1 => 2
-         TM 3 L=1 => 3
-         TM 5 L=0 R=1 => 4
-         TM 5 L=1 R=0 => 5
-         TM 6 L=0 R=1 => 6
-         TM 0 L=1 => 0
-         TM 4 L=1 => 1
-         TM 2 L=1 => 2
-         TM 3 L=1 => 3
-         TM 5 L=0 R=1 => 4
-         TM 5 L=1 R=0 => 5
-         TM 6 L=0 R=1 => 6",
+         TM 0 L=1 => 0 new
+         TM 4 L=1 => 1 new
+         TM 2 L=1 => 2 new
+         TM 3 L=1 => 3 new
+         TM 5 L=0 R=1 => 4 new
+         TM 5 L=1 R=0 => 5 new
+         TM 6 L=0 R=1 => 6 new
+         TM 0 L=1 => 0 old
+         TM 4 L=1 => 1 old
+         TM 2 L=1 => 2 old
+         TM 3 L=1 => 3 old
+         TM 5 L=0 R=1 => 4 old
+         TM 5 L=1 R=0 => 5 old
+         TM 6 L=0 R=1 => 6 old",
     );
 }
 
 #[test]
 fn steps_1_and_2_need_two_different_clients() {
-    for step in [1, 2] {
+    for (step, added) in [(1, 5), (2, 0)] {
         for fields in
             ["a=0 b=2", "a=1 b=0", "a=1 b=1", "a=0 b=0", "a=3 b=1", "a=1 b=3", "a=255 b=1"]
         {
             check(&format!("{REALM}\nST {step} {fields} => refused 6"));
         }
-        check(&format!("{REALM}\nST {step} a=2 b=1 => ok 0"));
+        check(&format!("{REALM}\nST {step} a=2 b=1 => ok 0 +{added}"));
     }
 }
 
@@ -250,9 +250,9 @@ fn a_bad_reference_comes_before_the_state() {
 fn step_8_for_the_server_forgets_nothing() {
     check(&format!(
         "{EXCHANGE}
-         ST 5 run=2 m=17 => ok 2
-         ST 7 t=50 => ok -
-         ST 8 b=0 => ok -
+         ST 5 run=2 m=17 => ok 2 +1
+         ST 7 t=50 => ok - +0
+         ST 8 b=0 => ok - +0
          end runs 3 wire 5 cache 1 clock 50"
     ));
 }
@@ -261,19 +261,19 @@ fn step_8_for_the_server_forgets_nothing() {
 fn step_3_with_a_bad_principal_in_its_message_is_a_matter_of_form() {
     let beginning = "
         HD n=3 Ls=1 La=1 => ok
-        TM 0 L=0 => 0
-        TM 0 L=1 => 1
-        TM 2 L=64 => 2
-        TM 5 L=1 R=2 => 3
-        TM 5 L=0 R=2 => 4";
+        TM 0 L=0 => 0 new
+        TM 0 L=1 => 1 new
+        TM 2 L=64 => 2 new
+        TM 5 L=1 R=2 => 3 new
+        TM 5 L=0 R=2 => 4 new";
     check_each(
         beginning,
         &[
-            "TM 5 L=0 R=3 => 5
+            "TM 5 L=0 R=3 => 5 new
          ST 3 m=5 => refused 14",
-            "TM 5 L=1 R=4 => 5
+            "TM 5 L=1 R=4 => 5 new
          ST 3 m=5 => refused 14",
-            "TM 5 L=1 R=3 => 5
+            "TM 5 L=1 R=3 => 5 new
          ST 3 m=5 => refused 14",
         ],
     );
@@ -288,7 +288,7 @@ fn a_refused_record_changes_nothing() {
          ST 7 t=7 m=1 => refused 5
          ST 3 m=3 => refused 14
          ST 9 run=0 => refused 11
-         TM 1 L=0 R=7 => 18
+         TM 1 L=0 R=7 => 18 new
          end runs 3 wire 4 cache 0 clock 0"
     ));
 }

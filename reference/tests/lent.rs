@@ -90,7 +90,7 @@ fn forgotten_entries_leave_zeros() {
     let mut tables = exchanged();
     tables.call(&tick(10)).unwrap();
     let forgets = Record::Step(StepRecord { step: 8, b: 2, ..StepRecord::default() });
-    assert_eq!(tables.call(&forgets), Ok(Answer::Done));
+    assert_eq!(tables.call(&forgets), Ok(Answer::Step { run: None, added: 0 }));
     assert_eq!(tables.counts.entries, 0);
     assert_eq!(tables.cache[0], Place::default());
     assert_eq!(tables.cache[1].ta, 99);
@@ -139,7 +139,7 @@ fn each_thing_spoilt_alone_gives_10() {
         |t| t.wire[7] = 1 << 63,
         |t| t.cache[0].k = 96,
     ];
-    assert_eq!(exchanged().call(&tick(0)), Ok(Answer::Done));
+    assert_eq!(exchanged().call(&tick(0)), Ok(Answer::Step { run: None, added: 0 }));
     for (number, spoil) in spoil.iter().enumerate() {
         let mut tables = exchanged();
         spoil(&mut tables);

@@ -118,7 +118,7 @@ fn a_second_header_of_either_mark_gives_3() {
     for first in ["HD n=3 Ls=1 La=1", "HW n=3 Ls=1 La=1"] {
         for second in ["HD n=3 Ls=1 La=1", "HW n=3 Ls=1 La=1", "HW n=2"] {
             let file = [record(first), record("ST 7 t=1"), record(second)].concat();
-            let expected = format!("0 {} ok\n1 ST ok -\n2 file refused 3\n", &first[..2]);
+            let expected = format!("0 {} ok\n1 ST ok - +0\n2 file refused 3\n", &first[..2]);
             assert_eq!(listing(&file), expected + "end runs 0 wire 0 cache 0 clock 1\n");
         }
     }
@@ -135,7 +135,7 @@ fn the_flags_of_either_mark_are_the_same_principals() {
             listing(&walk(&format!("{letters} n=16 flags={flags} Ls=9 La=9\n{records}")))
         });
         assert_eq!(narrow.replacen("HD", "HW", 1), wide);
-        let bad = wide.matches("ST ok -").count();
+        let bad = wide.matches("ST ok - +0\n").count();
         assert_eq!(bad as u32, u32::count_ones(flags), "{flags:#x}");
     }
 }
@@ -146,27 +146,27 @@ fn the_flags_of_either_mark_are_the_same_principals() {
 fn principals_up_to_31_take_part() {
     check(
         "HW n=32 flags=0x80010000 Ls=9 La=9 => ok
-         TM 0 L=31       => 0
+         TM 0 L=31       => 0 new
          TM 0 L=32       => refused 6
-         TM 3 L=16       => 1
-         TM 3 L=17       => 2
-         TM 3 L=30       => 3
-         TM 3 L=31       => 4
+         TM 3 L=16       => 1 new
+         TM 3 L=17       => 2 new
+         TM 3 L=30       => 3 new
+         TM 3 L=31       => 4 new
          TM 3 L=32       => refused 6
-         ST 10 m=1       => ok -
+         ST 10 m=1       => ok - +0
          ST 10 m=2       => refused 15
          ST 10 m=3       => refused 15
-         ST 10 m=4       => ok -
-         ST 1 a=30 b=31  => ok 0
-         ST 1 a=31 b=30  => ok 1
+         ST 10 m=4       => ok - +0
+         ST 1 a=30 b=31  => ok 0 +4
+         ST 1 a=31 b=30  => ok 1 +3
          ST 1 a=31 b=31  => refused 6
          ST 1 a=32 b=31  => refused 6
          ST 2 a=17 b=32  => refused 6
-         ST 2 a=17 b=31  => ok 2
-         ST 8 b=31       => ok -
+         ST 2 a=17 b=31  => ok 2 +0
+         ST 8 b=31       => ok - +0
          ST 8 b=32       => refused 6",
     );
-    check("HW n=31 Ls=9 La=9 => ok\nST 1 a=30 b=31 => refused 6\nST 1 a=29 b=30 => ok 0");
+    check("HW n=31 Ls=9 La=9 => ok\nST 1 a=30 b=31 => refused 6\nST 1 a=29 b=30 => ok 0 +5");
 }
 
 /// An exchange of 30 and 31 from end to end, and a replay.
@@ -174,14 +174,14 @@ fn principals_up_to_31_take_part() {
 fn the_last_two_principals_agree() {
     check(
         "HW n=32 Ls=100 La=10 => ok
-         ST 1 a=30 b=31  => ok 0
-         ST 3 m=4        => ok 1
-         ST 4 run=0 m=11 => ok 0
-         ST 2 a=30 b=31  => ok 2
-         TM 5 L=15 R=16  => 17
-         ST 5 run=2 m=17 => ok 2
-         ST 6 run=0 m=18 => ok 0
-         ST 2 a=30 b=31  => ok 3
+         ST 1 a=30 b=31  => ok 0 +5
+         ST 3 m=4        => ok 1 +11
+         ST 4 run=0 m=11 => ok 0 +1
+         ST 2 a=30 b=31  => ok 2 +0
+         TM 5 L=15 R=16  => 17 new
+         ST 5 run=2 m=17 => ok 2 +1
+         ST 6 run=0 m=18 => ok 0 +0
+         ST 2 a=30 b=31  => ok 3 +0
          ST 5 run=3 m=17 => refused 18
          end runs 4 wire 5 cache 1 clock 0",
     );
@@ -280,13 +280,17 @@ fn tables_have_the_widest_limit() {
     };
     let tick = StepRecord { step: 7, time: 1, ..StepRecord::default() };
     for (principals, flags) in [(3, 6), (16, 0), (17, 1 << 16), (31, 1 << 30), (32, 1 << 31)] {
-        assert_eq!(call(principals, flags, tick), Ok(Answer::Done), "{principals} {flags:#x}");
+        assert_eq!(
+            call(principals, flags, tick),
+            Ok(Answer::Step { run: None, added: 0 }),
+            "{principals} {flags:#x}"
+        );
     }
     for (principals, flags) in [(2, 0), (33, 0), (255, 0), (31, 1 << 31), (32, 1), (16, 1 << 16)] {
         let answer = call(principals, flags, tick);
         assert_eq!(answer, Err(Refusal::BrokenTables), "{principals} {flags:#x}");
     }
     let opens = StepRecord { step: 1, a: 30, b: 31, ..StepRecord::default() };
-    assert_eq!(call(32, 0, opens), Ok(Answer::Run(0)));
+    assert_eq!(call(32, 0, opens), Ok(Answer::Step { run: Some(0), added: 5 }));
     assert_eq!(call(31, 0, opens), Err(Refusal::BadReference));
 }

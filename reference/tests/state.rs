@@ -6,13 +6,13 @@ use common::{check, check_each, responders, times, EXCHANGE};
 
 /// The exchange after step 5; term 18 is the answer {Ta}K.
 fn accepted() -> String {
-    format!("{EXCHANGE}\nST 5 run=2 m=17 => ok 2")
+    format!("{EXCHANGE}\nST 5 run=2 m=17 => ok 2 +1")
 }
 
 #[test]
 fn steps_need_their_role_and_stage() {
     // Runs: 0 initiator after 4, 1 server, 2 responder opened, 3 initiator opened.
-    let beginning = format!("{EXCHANGE}\nST 1 a=1 b=2 => ok 3");
+    let beginning = format!("{EXCHANGE}\nST 1 a=1 b=2 => ok 3 +3");
     check_each(
         &beginning,
         &[
@@ -34,7 +34,7 @@ fn steps_need_their_role_and_stage() {
 
 #[test]
 fn runs_that_are_done_take_no_more_steps() {
-    let beginning = format!("{}\nST 6 run=0 m=18 => ok 0", accepted());
+    let beginning = format!("{}\nST 6 run=0 m=18 => ok 0 +0", accepted());
     check_each(
         &beginning,
         &[
@@ -62,7 +62,8 @@ fn a_wrong_stage_comes_before_a_wrong_form() {
 
 #[test]
 fn the_65th_run_is_refused() {
-    let beginning = format!("HD n=3 Ls=9 La=9 => ok\nST 1 a=1 b=2 => ok 0\n{}", responders(1, 64));
+    let beginning =
+        format!("HD n=3 Ls=9 La=9 => ok\nST 1 a=1 b=2 => ok 0 +5\n{}", responders(1, 64));
     check_each(
         &beginning,
         &[
@@ -70,9 +71,9 @@ fn the_65th_run_is_refused() {
             "ST 2 a=1 b=2 => refused 13\nend runs 64 wire 1 cache 0 clock 0",
             "ST 3 m=4 => refused 13\nend runs 64 wire 1 cache 0 clock 0",
             "ST 3 m=0 => refused 13",
-            "TM 2 L=9 => 5
-         TM 5 L=1 R=5 => 6
-         TM 5 L=0 R=6 => 7
+            "TM 2 L=9 => 5 new
+         TM 5 L=1 R=5 => 6 new
+         TM 5 L=0 R=6 => 7 new
          ST 3 m=7 => refused 13",
         ],
     );
@@ -80,13 +81,14 @@ fn the_65th_run_is_refused() {
 
 #[test]
 fn the_64th_run_is_opened_by_each_step() {
-    let beginning = format!("HD n=3 Ls=9 La=9 => ok\nST 1 a=1 b=2 => ok 0\n{}", responders(1, 63));
+    let beginning =
+        format!("HD n=3 Ls=9 La=9 => ok\nST 1 a=1 b=2 => ok 0 +5\n{}", responders(1, 63));
     check_each(
         &beginning,
         &[
-            "ST 1 a=1 b=2 => ok 63\nend runs 64 wire 2 cache 0 clock 0",
-            "ST 2 a=1 b=2 => ok 63\nend runs 64 wire 1 cache 0 clock 0",
-            "ST 3 m=4 => ok 63\nend runs 64 wire 3 cache 0 clock 0",
+            "ST 1 a=1 b=2 => ok 63 +3\nend runs 64 wire 2 cache 0 clock 0",
+            "ST 2 a=1 b=2 => ok 63 +0\nend runs 64 wire 1 cache 0 clock 0",
+            "ST 3 m=4 => ok 63 +11\nend runs 64 wire 3 cache 0 clock 0",
         ],
     );
 }
@@ -100,8 +102,9 @@ fn all_runs_taken_comes_before_a_full_table() {
 #[test]
 fn a_wrong_form_comes_before_what_cannot_be_derived() {
     // Term 18, the key of 3, can neither be derived nor is it any step's form.
-    let beginning =
-        format!("{EXCHANGE}\nTM 3 L=3 => 18\nST 1 a=1 b=2 => ok 3\nST 10 m=18 => refused 15");
+    let beginning = format!(
+        "{EXCHANGE}\nTM 3 L=3 => 18 new\nST 1 a=1 b=2 => ok 3 +3\nST 10 m=18 => refused 15"
+    );
     check_each(
         &beginning,
         &[
@@ -118,18 +121,18 @@ fn what_cannot_be_derived_comes_before_the_lives() {
     // {K, 2, 0, nonce 3} under the key of 1 was not sent; then all lives end.
     check(&format!(
         "{EXCHANGE}
-         ST 1 a=1 b=2 => ok 3    # terms 18 nonce, 19, 20
-         TM 5 L=6 R=18 => 21
-         TM 5 L=1 R=21 => 22
-         TM 5 L=5 R=22 => 23
-         TM 6 L=23 R=10 => 24
+         ST 1 a=1 b=2 => ok 3 +3   # terms 18 nonce, 19, 20
+         TM 5 L=6 R=18 => 21 new
+         TM 5 L=1 R=21 => 22 new
+         TM 5 L=5 R=22 => 23 new
+         TM 6 L=23 R=10 => 24 new
          ST 4 run=3 m=24 => refused 15
-         TM 6 L=6 R=5 => 25      # the answer, not sent yet
+         TM 6 L=6 R=5 => 25 new    # the answer, not sent yet
          ST 6 run=0 m=25 => refused 15
-         ST 7 t=1000 => ok -
+         ST 7 t=1000 => ok - +0
          ST 4 run=3 m=24 => refused 15
          ST 6 run=0 m=25 => refused 15
-         ST 9 run=1 => ok 1
+         ST 9 run=1 => ok 1 +0
          ST 6 run=0 m=25 => refused 16"
     ));
 }
@@ -139,9 +142,9 @@ fn the_ticket_comes_before_the_authenticator() {
     check_each(
         EXCHANGE,
         &[
-            "ST 7 t=100 => ok -
+            "ST 7 t=100 => ok - +0
          ST 5 run=2 m=17 => refused 16",
-            "ST 7 t=99 => ok -
+            "ST 7 t=99 => ok - +0
          ST 5 run=2 m=17 => refused 17",
         ],
     );
@@ -149,13 +152,13 @@ fn the_ticket_comes_before_the_authenticator() {
 
 #[test]
 fn the_authenticators_life_comes_before_the_cache() {
-    let beginning = format!("{}\nST 2 a=1 b=2 => ok 3", accepted());
+    let beginning = format!("{}\nST 2 a=1 b=2 => ok 3 +0", accepted());
     check_each(
         &beginning,
         &[
-            "ST 7 t=9 => ok -
+            "ST 7 t=9 => ok - +0
          ST 5 run=3 m=17 => refused 18",
-            "ST 7 t=10 => ok -
+            "ST 7 t=10 => ok - +0
          ST 5 run=3 m=17 => refused 17",
         ],
     );
@@ -167,21 +170,21 @@ fn sums_of_times_do_not_wrap() {
     let clock = 4294967290u32;
     let beginning = EXCHANGE.replace(
         "HD n=5 Ls=100 La=10 => ok",
-        &format!("HD n=5 Ls=10 La=10 => ok\nST 7 t={clock} => ok -"),
+        &format!("HD n=5 Ls=10 La=10 => ok\nST 7 t={clock} => ok - +0"),
     );
     check_each(
         &beginning,
         &[
-            "ST 5 run=2 m=17 => ok 2",
-            "ST 7 t=4294967295 => ok -
-         ST 5 run=2 m=17 => ok 2
-         ST 6 run=0 m=18 => ok 0
-         ST 8 b=2 => ok -
+            "ST 5 run=2 m=17 => ok 2 +1",
+            "ST 7 t=4294967295 => ok - +0
+         ST 5 run=2 m=17 => ok 2 +1
+         ST 6 run=0 m=18 => ok 0 +0
+         ST 8 b=2 => ok - +0
          end runs 3 wire 5 cache 1 clock 4294967295",
-            "ST 1 a=1 b=2 => ok 3        # 18, 19, 20
-         ST 3 m=20 => ok 4
-         ST 7 t=4294967295 => ok -
-         ST 4 run=3 m=25 => ok 3",
+            "ST 1 a=1 b=2 => ok 3 +3        # 18, 19, 20
+         ST 3 m=20 => ok 4 +7
+         ST 7 t=4294967295 => ok - +0
+         ST 4 run=3 m=25 => ok 3 +3",
         ],
     );
 }
@@ -193,8 +196,8 @@ fn the_longest_lives() {
     check_each(
         &beginning,
         &[
-            "ST 7 t=4294967294 => ok -\nST 5 run=2 m=17 => ok 2",
-            "ST 7 t=4294967295 => ok -\nST 5 run=2 m=17 => refused 16",
+            "ST 7 t=4294967294 => ok - +0\nST 5 run=2 m=17 => ok 2 +1",
+            "ST 7 t=4294967295 => ok - +0\nST 5 run=2 m=17 => refused 16",
         ],
     );
 }
@@ -204,14 +207,14 @@ fn a_time_far_ahead_is_accepted_and_kept() {
     // The server's key leaks; the intruder dates an authenticator far ahead.
     check(&format!(
         "{EXCHANGE}
-         ST 9 run=1 => ok 1
-         TM 1 L=65535 R=65535 => 18
-         TM 5 L=0 R=18 => 19
-         TM 6 L=19 R=5 => 20
-         TM 5 L=15 R=20 => 21
-         ST 5 run=2 m=21 => ok 2
-         ST 7 t=4294967295 => ok -
-         ST 8 b=2 => ok -
+         ST 9 run=1 => ok 1 +0
+         TM 1 L=65535 R=65535 => 18 new
+         TM 5 L=0 R=18 => 19 new
+         TM 6 L=19 R=5 => 20 new
+         TM 5 L=15 R=20 => 21 new
+         ST 5 run=2 m=21 => ok 2 +1
+         ST 7 t=4294967295 => ok - +0
+         ST 8 b=2 => ok - +0
          end runs 3 wire 6 cache 1 clock 4294967295"
     ));
 }

@@ -15,7 +15,8 @@
 //! - M: b, K, Ta; remembers an entry, by the call of that name alone
 //! - F: b, clock, La; forgets b's entries, likewise
 //!
-//! The last five write the answer, and whatever has changed.
+//! The last five write the answer, and whatever has changed. That of A says whether
+//! the term is new or old, that of S how many terms the step added.
 
 use std::fmt::Write;
 
@@ -89,7 +90,7 @@ impl World {
     }
 
     /// `remember` or `forget` on the places that are lent.
-    fn thin_call(&mut self, letter: char, numbers: [u32; 6]) -> Result<Answer, Refusal> {
+    fn thin_call(&mut self, letter: char, numbers: [u32; 6]) -> Result<(), Refusal> {
         let [b, x, y, ..] = numbers;
         let list = &mut self.tables.cache[..self.lent.cache];
         let entries = &mut self.tables.counts.entries;
@@ -98,7 +99,7 @@ impl World {
         } else {
             forget(list, *entries, b as u16, x, y)?
         };
-        Ok(Answer::Done)
+        Ok(())
     }
 
     /// "A new hall has clock 0 and empty tables."
@@ -170,19 +171,27 @@ impl Program for World {
         };
         let before = self.clone();
         let answer = match letter {
-            'O' => self.open(header(numbers)).map(|()| Answer::Done),
-            'A' | 'S' => self.call(&record(letter, numbers)),
-            'M' | 'F' => self.thin_call(letter, numbers),
+            'O' => self.open(header(numbers)).map(|()| "ok".to_string()),
+            'A' | 'S' => self.call(&record(letter, numbers)).map(told),
+            'M' | 'F' => self.thin_call(letter, numbers).map(|()| "ok".to_string()),
             _ => return self.set(letter, numbers),
         };
         let _ = match answer {
-            Ok(Answer::Term(number)) => write!(output, ": term {number}"),
-            Ok(Answer::Run(run)) => write!(output, ": ok {run}"),
-            Ok(Answer::Done) => write!(output, ": ok"),
+            Ok(answer) => write!(output, ": {answer}"),
             Err(refusal) => write!(output, ": refused {}", refusal.number()),
         };
         changes(&before.tables, &self.tables, output);
         output.push('\n');
+    }
+}
+
+/// An answer in words.
+fn told(answer: Answer) -> String {
+    match answer {
+        Answer::Old(number) => format!("term {number} old"),
+        Answer::New(number) => format!("term {number} new"),
+        Answer::Step { run: Some(run), added } => format!("ok {run} +{added}"),
+        Answer::Step { run: None, added } => format!("ok - +{added}"),
     }
 }
 

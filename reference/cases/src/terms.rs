@@ -80,10 +80,12 @@ impl Table {
         let (kind, left, right) = (kind as u8, left as u16, right as u16);
         let mut lent = self.lent();
         let answer = lent.call(&Record::Term(TermRecord { kind, left, right }))?;
-        let Answer::Term(number) = answer else { panic!("a term was added: {answer:?}") };
-        let state = if lent.counts.terms == self.count { "present" } else { "new" };
         self.take_back(lent);
-        Ok(format!("term {number}, {state}"))
+        Ok(match answer {
+            Answer::Old(number) => format!("term {number}, present"),
+            Answer::New(number) => format!("term {number}, new"),
+            Answer::Step { .. } => panic!("a term was added: {answer:?}"),
+        })
     }
 
     pub fn store(&mut self, root: u32) -> Result<String, Refusal> {

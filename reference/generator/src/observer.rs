@@ -141,10 +141,9 @@ impl Observer {
         match answer {
             Ok(answer) => {
                 self.met(&format!("{subject} / ok"));
-                self.met_if(
-                    answer == Answer::Run(MAX_RUNS - 1),
-                    &format!("{subject} / ok / run 63"),
-                );
+                let last =
+                    matches!(answer, Answer::Step { run: Some(run), .. } if run == MAX_RUNS - 1);
+                self.met_if(last, &format!("{subject} / ok / run 63"));
                 let new_terms = facts.new_terms.filter(|_| matches!(step, 1 | 3 | 4 | 5));
                 let full = self.realm.terms.count() == MAX_TERMS;
                 self.met_if(full && new_terms == Some(0), &format!("{subject} / ok / full table"));

@@ -195,7 +195,7 @@ pub fn made_delivery(walk: &mut Walk, highest_ta: u32) -> Option<StepRecord> {
     let authenticator = terms.encrypt(authenticator, key);
     let message = terms.pair(ticket, authenticator);
     let opening = StepRecord { step: 2, a, b, ..StepRecord::default() };
-    let Ok(Answer::Run(run)) = walk.step(opening) else { return None };
+    let Ok(Answer::Step { run: Some(run), .. }) = walk.step(opening) else { return None };
     let message = walk.spell(&message)?;
     let record = StepRecord { step: 5, run: run as u8, message, ..StepRecord::default() };
     walk.offer(record);

@@ -2,7 +2,7 @@
 //!
 //! ```text
 //! HD n=3 Ls=100 La=10 => ok
-//! ST 1 a=1 b=2        => ok 0
+//! ST 1 a=1 b=2        => ok 0 +5
 //! raw 54              => file refused 3
 //! end runs 1 wire 1 cache 0 clock 0
 //! ```
@@ -17,11 +17,11 @@ use reference::marks::{format_of, mark};
 /// 15 the ticket, 16 the authenticator.
 pub const EXCHANGE: &str = "
     HD n=5 Ls=100 La=10 => ok
-    ST 1 a=1 b=2        => ok 0
-    ST 3 m=4            => ok 1
-    ST 4 run=0 m=11     => ok 0
-    ST 2 a=1 b=2        => ok 2
-    TM 5 L=15 R=16      => 17
+    ST 1 a=1 b=2        => ok 0 +5
+    ST 3 m=4            => ok 1 +11
+    ST 4 run=0 m=11     => ok 0 +1
+    ST 2 a=1 b=2        => ok 2 +0
+    TM 5 L=15 R=16      => 17 new
 ";
 
 fn field(record: &str, name: &str) -> u32 {
@@ -109,10 +109,10 @@ pub fn check_each(beginning: &str, endings: &[&str]) {
 
 /// TM records of times that are otherwise not used, from this term number on.
 pub fn times(first: usize, end: usize) -> String {
-    (first..end).map(|number| format!("TM 1 L=9 R={number} => {number}\n")).collect()
+    (first..end).map(|number| format!("TM 1 L=9 R={number} => {number} new\n")).collect()
 }
 
 /// Step 2 so many times, from this run number on.
 pub fn responders(first: usize, end: usize) -> String {
-    (first..end).map(|number| format!("ST 2 a=1 b=2 => ok {number}\n")).collect()
+    (first..end).map(|number| format!("ST 2 a=1 b=2 => ok {number} +0\n")).collect()
 }
