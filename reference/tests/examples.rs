@@ -25,7 +25,8 @@ fn words_bytes_and_listings_agree() {
     assert!(examples >= 10);
 }
 
-/// A comment that says "refused" and a number stands at a record that is.
+/// A comment that says "refused" and a number stands at a record that is; one that
+/// ends in "old", or in "+" and a number, at a line that ends so.
 fn check_comments(text: &str, listing: &str) {
     let records = text.lines().filter(|line| !line.starts_with('#') && !line.trim().is_empty());
     for (record, line) in records.zip(listing.lines()) {
@@ -33,5 +34,8 @@ fn check_comments(text: &str, listing: &str) {
             record.split_once("# refused ").map(|(_, rest)| rest.split(':').next().unwrap().trim());
         let found = line.split_once(" refused ").map(|(_, number)| number);
         assert!(said.is_none() || said == found, "{record} | {line}");
+        let last = record.rsplit(' ').next().unwrap();
+        let tells = record.contains('#') && (last == "old" || last.starts_with('+'));
+        assert!(!tells || line.ends_with(&format!(" {last}")), "{record} | {line}");
     }
 }
