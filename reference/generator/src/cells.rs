@@ -28,6 +28,24 @@ pub fn refusals_of_step(step: u8) -> &'static [u8] {
     }
 }
 
+/// How many terms a step adds at most. What stands in m is present, and so are
+/// the principals of an initiator run and the key of a server run.
+///
+/// - 1: a, b, the nonce and two pairs.
+/// - 3: K, Ts, three pairs, a's key and the part for a; two pairs, b's key and the
+///   ticket.
+/// - 4: Ta, its pair with a, and the authenticator.
+/// - 5: the confirmation.
+pub fn most_added(step: u8) -> usize {
+    match step {
+        1 => 5,
+        3 => 11,
+        4 => 3,
+        5 => 1,
+        _ => 0,
+    }
+}
+
 /// The refusals that a TM record of a kind can give. Kinds 1, 5 and 6 use both
 /// fields, so they cannot meet 5; every time exists, so kind 1 cannot meet 6.
 pub fn refusals_of_kind(kind: u8) -> &'static [u8] {

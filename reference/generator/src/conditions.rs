@@ -2,6 +2,8 @@
 //! asked on its own as far as its inputs are there, so this is also a second
 //! reading of the paper's two tables: the least of them must be the answer.
 
+use std::collections::HashSet;
+
 use reference::file::{Record, StepRecord, TermRecord};
 use reference::realm::{Entry, Realm, Role, Run, Stage, MAX_ENTRIES, MAX_RUNS};
 use reference::terms::{Message, MAX_TERMS};
@@ -274,9 +276,27 @@ fn expiry_facts(realm: &Realm, step: u8, read: Read, facts: &mut Facts) {
 
 /// 20.
 fn room_facts(realm: &mut Realm, step: u8, read: Read, facts: &mut Facts) {
-    let Read { a, b, nonce, key, ta, .. } = read;
-    let sends = Sends { a, b, nonce, key, ta: ta.unwrap_or(0) }.messages(realm, step);
-    let new_terms = realm.terms.missing(&sends).len();
+    let messages = sends(realm, step, read);
+    let new_terms = parts_not_present(realm, messages);
     facts.new_terms = Some(new_terms);
     facts.refuse_if(new_terms > facts.free_terms, 20, "");
+}
+
+/// What the step would send.
+pub fn sends(realm: &mut Realm, step: u8, read: Read) -> Vec<Message> {
+    let Read { a, b, nonce, key, ta, .. } = read;
+    Sends { a, b, nonce, key, ta: ta.unwrap_or(0) }.messages(realm, step)
+}
+
+/// How many parts of the messages are no terms yet, each counted once.
+fn parts_not_present(realm: &Realm, messages: Vec<Message>) -> usize {
+    let mut parts = HashSet::new();
+    let mut todo = messages;
+    while let Some(message) = todo.pop() {
+        if let Some((first, second)) = message.pair().or(message.encrypted()) {
+            todo.extend([first.clone(), second.clone()]);
+        }
+        parts.insert(message);
+    }
+    parts.iter().filter(|part| realm.terms.number(part).is_none()).count()
 }

@@ -2,7 +2,7 @@
 
 use reference::marks::FORMATS;
 
-use crate::cells::refusals_of_kind;
+use crate::cells::{most_added, refusals_of_kind};
 use crate::{forms, header_cells};
 
 /// Cells that say in which way a cell above was met: each condition of a
@@ -13,6 +13,7 @@ pub fn edge_cells() -> Vec<String> {
     cells.extend(header_cells::edges());
     cells.extend(principal_edges());
     cells.extend(term_edges());
+    cells.extend(added_edges());
     cells.extend(input_edges());
     cells.extend(stage_and_form_edges());
     cells.extend(order_edges());
@@ -69,6 +70,7 @@ fn term_edges() -> Vec<String> {
     for kind in 0..=6 {
         cells.push(format!("TM {kind} / new / last place"));
         cells.push(format!("TM {kind} / old / full table"));
+        cells.push(format!("TM {kind} / old / added by a step"));
         let ways: &[&str] = match kind {
             0 | 3 => &["L is n", "L above n"],
             2 | 4 => &["L is 96", "L above 96"],
@@ -88,6 +90,20 @@ fn term_edges() -> Vec<String> {
     cells.push("TM 4 / new / L is 95".into());
     cells.push("TM 5 / new / deeper than 200".into());
     cells.push("TM 6 / new / deeper than 200".into());
+    cells
+}
+
+/// A step with each number of terms that it can add, and with as many places left
+/// where some of them are present.
+fn added_edges() -> Vec<String> {
+    let mut cells = Vec::new();
+    for step in [1, 3, 4, 5] {
+        let most = most_added(step);
+        cells.extend((0..=most).map(|added| format!("step {step} / ok / adds {added}")));
+        if most > 1 {
+            cells.push(format!("step {step} / ok / last place, some present"));
+        }
+    }
     cells
 }
 

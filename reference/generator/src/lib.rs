@@ -14,6 +14,7 @@ pub mod extremes;
 pub mod forms;
 pub mod header_cells;
 pub mod headers;
+pub mod known;
 pub mod limits;
 pub mod observer;
 pub mod random;

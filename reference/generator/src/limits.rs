@@ -5,9 +5,9 @@ use reference::realm::{MAX_ENTRIES, MAX_RUNS};
 use reference::terms::MAX_TERMS;
 
 use crate::actions;
-use crate::conditions::facts;
-use crate::forms::Sends;
+use crate::conditions::{facts, sends};
 use crate::headers::any_header;
+use crate::known::add_some;
 use crate::random::Random;
 use crate::scenes::{act, deliver, made_delivery, set_clock};
 use crate::walk::Walk;
@@ -42,9 +42,7 @@ fn prepare(walk: &mut Walk, spell_sends: bool) -> Vec<StepRecord> {
         let Some(record) = actions::aimed(walk, step) else { continue };
         let facts = facts(&mut walk.realm, &Record::Step(record));
         if let (true, Some(read)) = (spell_sends, facts.read) {
-            let (nonce, key, ta) = (read.nonce, read.key, read.ta.unwrap_or(0));
-            let sends = Sends { a: read.a, b: read.b, nonce, key, ta };
-            for message in sends.messages(&mut walk.realm, step) {
+            for message in sends(&mut walk.realm, step, read) {
                 let _ = walk.spell(&message);
             }
         }
@@ -131,7 +129,8 @@ fn offer_terms(walk: &mut Walk) {
 }
 
 /// A step that is about to be taken with exactly as many places as it needs,
-/// with one fewer, or with none needed and none left.
+/// with one fewer, or with none needed and none left. At times some of its terms
+/// are present.
 pub fn last_places(random: &mut Random) -> Walk {
     let mut header = any_header(random);
     header.ticket_life = header.ticket_life.max(5);
@@ -146,6 +145,9 @@ pub fn last_places(random: &mut Random) -> Walk {
         };
         let Some(record) = record else { return walk };
         if step == last {
+            if walk.random.one_in(3) {
+                add_some(&mut walk, record);
+            }
             prepare_last(&mut walk, record);
             pass_time(&mut walk);
         }
@@ -170,7 +172,8 @@ fn pass_time(walk: &mut Walk) {
     }
 }
 
-fn on_its_way(walk: &mut Walk, step: u8) -> Option<StepRecord> {
+/// The step with a message on the wire that fits, if there is one.
+pub fn on_its_way(walk: &mut Walk, step: u8) -> Option<StepRecord> {
     let run = if step == 3 { 0 } else { actions::run_for(walk, step)? };
     let message = actions::sent_for(walk, step, run)?;
     Some(StepRecord { step, run, message: walk.spell(&message)?, ..StepRecord::default() })
@@ -183,9 +186,7 @@ fn prepare_last(walk: &mut Walk, record: StepRecord) {
         0 => fill_terms(walk, needed),
         1 | 2 if needed > 0 => fill_terms(walk, needed - 1),
         _ => {
-            let (nonce, key, ta) = (read.nonce, read.key, read.ta.unwrap_or(0));
-            let sends = Sends { a: read.a, b: read.b, nonce, key, ta };
-            for message in sends.messages(&mut walk.realm, record.step) {
+            for message in sends(&mut walk.realm, record.step, read) {
                 let _ = walk.spell(&message);
             }
             fill_terms(walk, 0);

@@ -1,6 +1,6 @@
 //! Follows a walk record by record and names the cells that each one meets.
 
-use std::collections::HashMap;
+use std::collections::{HashMap, HashSet};
 
 use reference::file::{Record, Settings, StepRecord, TermRecord};
 use reference::intruder::FIRST_OF_INTRUDER;
@@ -9,6 +9,7 @@ use reference::realm::{Answer, Entry, Realm, Role, Run, MAX_ENTRIES, MAX_RUNS};
 use reference::refusal::Refusal;
 use reference::terms::{Message, MAX_TERMS};
 
+use crate::cells::most_added;
 use crate::conditions::{facts, Facts};
 use crate::forms;
 
@@ -20,12 +21,19 @@ pub struct Observer {
     depths: HashMap<Message, usize>,
     /// Deliveries of step 5 that were refused, by run and m, with the number.
     refused: HashMap<(u8, u16), u8>,
+    /// The terms that steps added.
+    added_by_steps: HashSet<u16>,
 }
 
 impl Observer {
     pub fn new(settings: Settings) -> Observer {
-        let (cells, depths, refused) = (Vec::new(), HashMap::new(), HashMap::new());
-        Observer { realm: Realm::new(settings), cells, depths, refused }
+        Observer {
+            cells: Vec::new(),
+            realm: Realm::new(settings),
+            depths: HashMap::new(),
+            refused: HashMap::new(),
+            added_by_steps: HashSet::new(),
+        }
     }
 
     pub fn met(&mut self, cell: &str) {
@@ -58,10 +66,16 @@ impl Observer {
             self.before_step(step, &facts);
         }
         let before = self.tables();
+        let count = self.realm.terms.count();
         let answer = self.realm.apply(record);
         let least = facts.applies.first().copied();
         assert_eq!(answer.err().map(Refusal::number), least, "{record:?}");
         assert!(answer.is_ok() || before == self.tables(), "changed by a refused {record:?}");
+        if let Ok(answer) = answer {
+            let added = facts.new_terms.unwrap_or(0);
+            assert_eq!(added_terms(answer), added, "{record:?}");
+            assert_eq!(self.realm.terms.count(), count + added, "{record:?}");
+        }
         match record {
             Record::Term(term) => self.term(term, &facts, answer),
             Record::Step(step) => self.step(step, &facts, answer),
@@ -101,8 +115,10 @@ impl Observer {
         if let Err(refusal) = answer {
             return self.refusal(&subject, facts, refusal.number());
         }
-        if facts.new_terms == Some(0) {
+        if let Ok(Answer::Old(number)) = answer {
             self.met(&format!("{subject} / old"));
+            let by_a_step = self.added_by_steps.contains(&number);
+            self.met_if(by_a_step, &format!("{subject} / old / added by a step"));
             return self.met_if(facts.free_terms == 0, &format!("{subject} / old / full table"));
         }
         self.met(&format!("{subject} / new"));
@@ -144,10 +160,7 @@ impl Observer {
                 let last =
                     matches!(answer, Answer::Step { run: Some(run), .. } if run == MAX_RUNS - 1);
                 self.met_if(last, &format!("{subject} / ok / run 63"));
-                let new_terms = facts.new_terms.filter(|_| matches!(step, 1 | 3 | 4 | 5));
-                let full = self.realm.terms.count() == MAX_TERMS;
-                self.met_if(full && new_terms == Some(0), &format!("{subject} / ok / full table"));
-                self.met_if(full && new_terms > Some(0), &format!("{subject} / ok / last place"));
+                self.added_cells(step, added_terms(answer));
                 let last_entry = step == 5 && self.realm.cache.len() == MAX_ENTRIES;
                 self.met_if(last_entry, "step 5 / ok / last entry");
                 self.principal_cells(record, facts);
@@ -162,6 +175,21 @@ impl Observer {
                 }
             }
         }
+    }
+
+    /// How many terms an accepted step added, of those that it can add.
+    fn added_cells(&mut self, step: u8, added: usize) {
+        let count = self.realm.terms.count();
+        self.added_by_steps.extend((count - added..count).map(|number| number as u16));
+        if most_added(step) == 0 {
+            return;
+        }
+        let full = count == MAX_TERMS;
+        self.met(&format!("step {step} / ok / adds {added}"));
+        self.met_if(full && added == 0, &format!("step {step} / ok / full table"));
+        self.met_if(full && added > 0, &format!("step {step} / ok / last place"));
+        let in_part = 0 < added && added < most_added(step);
+        self.met_if(full && in_part, &format!("step {step} / ok / last place, some present"));
     }
 
     /// The principals that an accepted step is about.
@@ -359,5 +387,14 @@ impl Observer {
         let refused = self.refused.get(&(record.run, record.message)).copied();
         self.met_if(refused == Some(15), "step 5 / ok / refused 15 before");
         self.met_if(refused == Some(19), "step 5 / ok / refused 19 before");
+    }
+}
+
+/// How many terms an answer says were added.
+fn added_terms(answer: Answer) -> usize {
+    match answer {
+        Answer::Old(_) => 0,
+        Answer::New(_) => 1,
+        Answer::Step { added, .. } => added,
     }
 }

@@ -7,7 +7,7 @@ use reference::terms::Shape;
 use crate::headers::any_header;
 use crate::random::Random;
 use crate::walk::Walk;
-use crate::{actions, damage, extremes, limits};
+use crate::{actions, damage, extremes, known, limits};
 
 /// A file of any kind. Files on full tables and of full length are long, so
 /// they are made less often.
@@ -24,7 +24,8 @@ pub fn any_damaged_file(random: &mut Random) -> Vec<u8> {
 
 fn file_of(random: &mut Random, kind: usize) -> Vec<u8> {
     match kind {
-        0..=64 => mixed(random).bytes,
+        0..=59 => mixed(random).bytes,
+        60..=64 => known::known_parts(random).bytes,
         65..=84 => exchanges(random).bytes,
         85..=104 => ticks(random).bytes,
         105..=118 => collisions(random).bytes,

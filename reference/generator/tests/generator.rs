@@ -3,10 +3,11 @@
 
 use std::collections::HashSet;
 
-use generator::cells::{main_cells, refusals_of_kind, refusals_of_step};
+use generator::cells::{main_cells, most_added, refusals_of_kind, refusals_of_step};
 use generator::coverage::{cells_met, Tally};
 use generator::edges::edge_cells;
 use generator::headers::{any_header, spoilt_header, unknown_mark};
+use generator::known::known_parts;
 use generator::random::Random;
 use generator::{damaged_file, vectors, walk_file};
 use reference::marks::{format_of, FORMATS};
@@ -82,6 +83,23 @@ fn every_main_cell_is_met_soon_and_none_that_is_ruled_out() {
     );
 }
 
+/// A step adds each number of terms that it can add, and none adds more.
+#[test]
+fn known_parts_are_any_number() {
+    let mut tally = Tally::default();
+    for number in 0..400 {
+        tally.add(&known_parts(&mut Random::new(SEED, number)).bytes);
+    }
+    for step in [1, 3, 4, 5] {
+        let counts = (0..=most_added(step)).map(|added| format!("step {step} / ok / adds {added}"));
+        for cell in counts {
+            assert!(tally.count(&cell) > 0, "never met: {cell}");
+        }
+    }
+    let adds = |cell: &&String| cell.contains(" / ok / adds ");
+    assert_eq!(tally.counts.keys().filter(adds).count(), 6 + 12 + 4 + 2);
+}
+
 #[test]
 fn cells_are_listed_once() {
     let all: Vec<String> = main_cells().into_iter().chain(edge_cells()).collect();
@@ -124,6 +142,10 @@ fn a_cell_names_what_happened() {
     has(met(b"TM\x09\0\x03\0\0"), "TM other / refused 4");
     has(met(b"ST\x01\0\x01\x01\0\0\0\0\0\0"), "step 1 / refused 6 / a equals b");
     has(met(b"ST\x07\0\0\0\0\0\0\0\0\0"), "step 7 / ok / the same clock");
+    let opened = b"ST\x01\0\x01\x02\0\0\0\0\0\0TM\x02\0\0\0\0";
+    has(met(opened), "step 1 / ok / adds 5");
+    has(met(opened), "TM 2 / old / added by a step");
+    has(met(&[b"TM\x02\0\0\0\0", &opened[..]].concat()), "step 1 / ok / adds 4");
     has(met(b"ST\x0b\0\0\0\0\0\0\0\0\0"), "step other / refused 4");
     has(met(b"ST\x0a\0\0\0\0\0\0\0\0"), "file / refused 3 / ST cut short");
     has(cells_met(b""), "file / refused 1 / empty");
