@@ -1,10 +1,11 @@
 //! The cases of `call_cases`: document 01's cases F and A to D as walks, every
 //! refusal of a call, 10 in each of its causes, every table filled to its last
-//! place, and the two calls on the replay cache alone. Places past the counts
-//! hold what is no term, run or entry.
+//! place, terms that are known before, and the two calls on the replay cache
+//! alone. Places past the counts hold what is no term, run or entry.
 
 mod broken;
 mod full;
+mod known;
 mod refused;
 mod thin;
 mod walks;
@@ -251,6 +252,11 @@ pub fn script() -> Script<World> {
     full::all_runs(&mut script);
     full::all_terms(&mut script);
     full::all_entries(&mut script);
+    known::terms(&mut script);
+    known::requests(&mut script);
+    known::replies(&mut script);
+    known::authenticators(&mut script);
+    known::full_table(&mut script);
     thin::lives(&mut script);
     thin::sixteen(&mut script);
     thin::others_stay(&mut script);

@@ -50,6 +50,30 @@ fn every_refusal_is_met() {
     }
 }
 
+/// Each step with each number of terms that it can add, as its text says.
+#[test]
+fn every_number_of_terms_is_added() {
+    let output = stored("call_cases", "stdout");
+    for (step, most) in [(1, 5), (3, 11), (4, 3), (5, 1)] {
+        for present in 0..=most {
+            let text = format!("step {step}, {present} of its terms present: ok ");
+            let answer = output.lines().find_map(|line| line.strip_prefix(&text)).unwrap();
+            let added = answer.split([' ', ',']).nth(1).unwrap();
+            assert_eq!(added, format!("+{}", most - present), "{text}");
+        }
+    }
+    for line in output.lines().filter(|line| line.contains(": ok ")) {
+        let (_, answer) = line.split_once(": ok ").unwrap();
+        assert!(
+            answer.split([' ', ',']).nth(1).is_some_and(|word| word.starts_with('+')),
+            "{line}"
+        );
+    }
+    for state in ["old", "new"] {
+        assert!(output.lines().any(|line| line.contains(&format!(" {state}"))), "{state}");
+    }
+}
+
 #[test]
 fn a_refused_call_changes_nothing() {
     for name in ["call_cases", "term_tables"] {
