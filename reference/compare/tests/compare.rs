@@ -14,6 +14,29 @@ fn forgetful(file: &[u8]) -> Vec<u8> {
     reference::listing(file).replace("refused 18", "ok 0").into_bytes()
 }
 
+/// Says of each term that it is new.
+fn all_new(file: &[u8]) -> Vec<u8> {
+    reference::listing(file).replace(" old\n", " new\n").into_bytes()
+}
+
+/// Leaves out that a step added nothing.
+fn silent(file: &[u8]) -> Vec<u8> {
+    reference::listing(file).replace(" +0\n", "\n").into_bytes()
+}
+
+/// Adds up what the steps have added.
+fn adding_up(file: &[u8]) -> Vec<u8> {
+    let mut sum = 0;
+    let line = |line: &str| match line.rsplit_once('+') {
+        Some((before, added)) => {
+            sum += added.parse::<usize>().unwrap();
+            format!("{before}+{sum}\n")
+        }
+        None => format!("{line}\n"),
+    };
+    reference::listing(file).lines().map(line).collect::<String>().into_bytes()
+}
+
 fn over(engine: Engine, files: u64) -> Outcome {
     let mut outcome = Outcome::default();
     for number in 0..files {
@@ -34,6 +57,18 @@ fn a_wrong_engine_is_found() {
     assert!(outcome.different > 10);
     let (_, difference) = outcome.first.unwrap();
     assert!(difference.contains("refused 18"), "{difference}");
+}
+
+#[test]
+fn engines_that_miscount_terms_are_found() {
+    for (engine, line) in
+        [(all_new as fn(&[u8]) -> Vec<u8>, " old"), (silent, " +0"), (adding_up, " +")]
+    {
+        let outcome = over(Engine::Function(engine), 300);
+        assert!(outcome.different > 10, "{}", outcome.different);
+        let (_, difference) = outcome.first.unwrap();
+        assert!(difference.contains(line), "{difference}");
+    }
 }
 
 #[test]

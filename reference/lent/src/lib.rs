@@ -55,11 +55,13 @@ struct Question {
     t: u32,
 }
 
+/// The kinds: 0 a term's number, 1 ok with a run, 2 ok without, 3 refused.
 #[repr(C)]
 struct Reply {
     realm: Realm,
     kind: u8,
     number: u16,
+    added: u8,
 }
 
 extern "C" {
@@ -80,10 +82,27 @@ extern "C" {
 
 #[derive(Clone, Copy, Debug, PartialEq, Eq)]
 pub enum Answer {
-    Number(u16),
-    OkRun(u8),
-    Ok,
+    /// The number of a term that was present.
+    Old(u16),
+    /// The number of a term that was added.
+    New(u16),
+    /// A step: the run that it names, if any, and how many terms it added.
+    Ok {
+        run: Option<u8>,
+        added: u8,
+    },
     Refused(u8),
+}
+
+impl Answer {
+    /// How many terms the call added.
+    pub fn added(self) -> u8 {
+        match self {
+            Answer::New(_) => 1,
+            Answer::Ok { added, .. } => added,
+            Answer::Old(_) | Answer::Refused(_) => 0,
+        }
+    }
 }
 
 /// A realm and its tables. They are of any length: the call looks at that.
@@ -135,16 +154,22 @@ impl Tables {
             )
         };
         self.realm = reply.realm;
-        match reply.kind {
-            0 => Answer::Number(reply.number),
-            1 => Answer::OkRun(reply.number as u8),
-            2 => Answer::Ok,
-            _ => Answer::Refused(reply.number as u8),
-        }
+        answered(reply.kind, reply.number, reply.added)
     }
 
     pub fn marks(&self) -> u32 {
         self.wire.iter().map(|word| word.count_ones()).sum()
+    }
+}
+
+fn answered(kind: u8, number: u16, added: u8) -> Answer {
+    match (kind, added) {
+        (0, 0) => Answer::Old(number),
+        (0, 1) => Answer::New(number),
+        (1, _) => Answer::Ok { run: Some(number as u8), added },
+        (2, _) => Answer::Ok { run: None, added },
+        (3, 0) => Answer::Refused(number as u8),
+        _ => panic!("no reply has kind {kind} with {added} terms added"),
     }
 }
 

@@ -5,8 +5,12 @@ use std::fs;
 use std::path::PathBuf;
 
 use lent::{Answer, Tables};
-use reference::file::{read_header, read_record, Record, StepRecord};
+use reference::file::{read_header, read_record, Record, StepRecord, TermRecord};
 use reference::realm::{Answer as Expected, Realm};
+
+fn ok(run: Option<u8>, added: u8) -> Answer {
+    Answer::Ok { run, added }
+}
 
 /// Each answer of a file, and the counts after it; how many records it has.
 fn compare(name: &str, file: &[u8]) -> usize {
@@ -20,12 +24,14 @@ fn compare(name: &str, file: &[u8]) -> usize {
         let before = tables.clone();
         let answer = tables.call(&record);
         let expected = match realm.apply(&record) {
-            Ok(Expected::Term(number)) => Answer::Number(number),
-            Ok(Expected::Run(run)) => Answer::OkRun(run as u8),
-            Ok(Expected::Done) => Answer::Ok,
+            Ok(Expected::Old(number)) => Answer::Old(number),
+            Ok(Expected::New(number)) => Answer::New(number),
+            Ok(Expected::Step { run, added }) => ok(run.map(|run| run as u8), added as u8),
             Err(refusal) => Answer::Refused(refusal.number()),
         };
         assert_eq!(answer, expected, "{name}, record {records}: {record:?}");
+        let grown = tables.realm.terms - before.realm.terms;
+        assert_eq!(usize::from(answer.added()), grown, "{name}, record {records}: {record:?}");
         if let Answer::Refused(_) = answer {
             assert_eq!(
                 tables, before,
@@ -63,20 +69,34 @@ fn case_f() {
         rest = after;
         answers.push(tables.call(&record));
     }
-    use Answer::{Number, OkRun, Refused};
     let expected = [
-        OkRun(0),
-        OkRun(1),
-        OkRun(0),
-        OkRun(2),
-        Number(17),
-        OkRun(2),
-        OkRun(0),
-        OkRun(3),
-        Refused(18),
+        ok(Some(0), 5),
+        ok(Some(1), 11),
+        ok(Some(0), 1),
+        ok(Some(2), 0),
+        Answer::New(17),
+        ok(Some(2), 1),
+        ok(Some(0), 0),
+        ok(Some(3), 0),
+        Answer::Refused(18),
     ];
     assert_eq!(answers, expected);
     assert_eq!((tables.realm.runs, tables.marks(), tables.realm.entries), (4, 5, 1));
+}
+
+/// The same terms again: each is old, and the tables stay.
+#[test]
+fn terms_are_new_once() {
+    let (header, _) = read_header(b"HD\x03\0\0\0\0\0\x64\0\0\0\x0a").unwrap();
+    let mut tables = Tables::new(&header);
+    let terms = [(0, 1, 0), (1, 0, 1), (2, 1, 0), (3, 1, 0), (4, 1, 0), (5, 0, 1), (6, 0, 4)];
+    let terms = terms.map(|(kind, left, right)| Record::Term(TermRecord { kind, left, right }));
+    let added = terms.map(|term| tables.call(&term));
+    assert_eq!(added, [0, 1, 2, 3, 4, 5, 6].map(Answer::New));
+    let before = tables.clone();
+    let again = terms.map(|term| tables.call(&term));
+    assert_eq!(again, [0, 1, 2, 3, 4, 5, 6].map(Answer::Old));
+    assert_eq!(tables, before);
 }
 
 #[test]
@@ -126,7 +146,7 @@ fn tables_of_other_lengths_are_refused() {
         }
     }
     assert_eq!(full.clone().call(&unknown), Answer::Refused(4));
-    assert_eq!(full.clone().call(&opens), Answer::OkRun(0));
+    assert_eq!(full.clone().call(&opens), ok(Some(0), 5));
 }
 
 /// Tables that do not hold together: 10, and every place as it was.
@@ -140,7 +160,7 @@ fn broken_tables_are_refused() {
         whole.call(&record);
     }
     let ticks = Record::Step(StepRecord { step: 7, time: 5, ..StepRecord::default() });
-    assert_eq!(whole.clone().call(&ticks), Answer::Ok);
+    assert_eq!(whole.clone().call(&ticks), ok(None, 0));
     let breaks: [fn(&mut Tables); 17] = [
         |t| t.realm.n = 2,
         |t| t.realm.n = 33,
@@ -176,11 +196,11 @@ fn tables_of_32_principals_hold_together() {
     let opens = Record::Step(StepRecord { step: 1, a: 30, b: 31, ..StepRecord::default() });
     let (header, _) = read_header(b"HD\x03\0\0\0\0\0\x64\0\0\0\x0a").unwrap();
     let cases = [
-        (17, 1 << 16, Answer::Ok, Answer::Refused(6)),
-        (31, 1 << 30, Answer::Ok, Answer::Refused(6)),
+        (17, 1 << 16, ok(None, 0), Answer::Refused(6)),
+        (31, 1 << 30, ok(None, 0), Answer::Refused(6)),
         (31, 1 << 31, Answer::Refused(10), Answer::Refused(10)),
-        (32, 1 << 31, Answer::Ok, Answer::OkRun(0)),
-        (32, 0xffff_fffe, Answer::Ok, Answer::OkRun(0)),
+        (32, 1 << 31, ok(None, 0), ok(Some(0), 5)),
+        (32, 0xffff_fffe, ok(None, 0), ok(Some(0), 5)),
         (33, 0, Answer::Refused(10), Answer::Refused(10)),
     ];
     for (n, flags, ticked, opened) in cases {
