@@ -56,7 +56,7 @@ impl Both {
 
     fn term(&mut self, kind: u8, left: u16, right: u16) -> u16 {
         match self.put(Record::Term(TermRecord { kind, left, right })) {
-            Answer::Number(number) => number,
+            Answer::Old(number) | Answer::New(number) => number,
             answer => panic!("{answer:?}"),
         }
     }
@@ -84,9 +84,11 @@ impl Both {
 
 pub fn answered(answer: Result<realm::Answer, reference::refusal::Refusal>) -> Answer {
     match answer {
-        Ok(realm::Answer::Term(number)) => Answer::Number(number),
-        Ok(realm::Answer::Run(run)) => Answer::OkRun(run as u8),
-        Ok(realm::Answer::Done) => Answer::Ok,
+        Ok(realm::Answer::Old(number)) => Answer::Old(number),
+        Ok(realm::Answer::New(number)) => Answer::New(number),
+        Ok(realm::Answer::Step { run, added }) => {
+            Answer::Ok { run: run.map(|run| run as u8), added: added as u8 }
+        }
         Err(refusal) => Answer::Refused(refusal.number()),
     }
 }

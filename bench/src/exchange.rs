@@ -78,7 +78,7 @@ pub fn tick(walk: &mut Walk) {
 /// The number of a term that is there or fits.
 pub fn term(walk: &mut Walk, kind: u8, left: u16, right: u16) -> u16 {
     match walk.term(kind, left, right) {
-        Ok(Answer::Term(number)) => number,
+        Ok(Answer::Old(number) | Answer::New(number)) => number,
         _ => panic!("refused: term {kind} {left} {right}"),
     }
 }

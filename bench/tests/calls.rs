@@ -3,6 +3,9 @@
 use bench::calls::{chain, make, query, sweeps, Order, CALLS, EACH, LINKS};
 use lent::Answer;
 
+/// Ok, with no run and no term added.
+const OK: Answer = Answer::Ok { run: None, added: 0 };
+
 #[test]
 fn calls_leave_full_tables_as_they_are() {
     for terms in [64, 128, 256, 512] {
@@ -12,8 +15,8 @@ fn calls_leave_full_tables_as_they_are() {
             assert_eq!((realm.terms, realm.runs, realm.entries), (terms, 64, 16));
             let before = call.both.tables.clone();
             let answer = call.both.put(call.record);
-            assert_eq!(answer, Answer::Ok, "{}", call.name);
-            assert_eq!(call.both.put(call.check()), Answer::Ok, "{}", call.name);
+            assert_eq!(answer, OK, "{}", call.name);
+            assert_eq!(call.both.put(call.check()), OK, "{}", call.name);
             EACH.into_iter().for_each(|which| call.take(which));
             assert_eq!(call.both.tables, before, "{}", call.name);
         }
@@ -54,6 +57,6 @@ fn the_delivery_is_refused_on_full_tables() {
     assert_eq!(call.sweeps, 3);
     let before = call.both.tables.clone();
     assert_eq!(call.both.put(call.record), Answer::Refused(18));
-    assert_eq!(call.both.put(call.check()), Answer::Ok);
+    assert_eq!(call.both.put(call.check()), OK);
     assert_eq!(call.both.tables, before);
 }
