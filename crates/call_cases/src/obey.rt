@@ -5,7 +5,9 @@ use super::lent::lent_forget;
 use super::lent::lent_remember;
 use super::show::print_answer;
 use super::show::print_cache;
+use super::show::print_ok;
 use super::show::print_realm;
+use super::show::print_refused;
 use super::show::print_runs;
 use super::world::World;
 use super::world::new;
@@ -19,7 +21,6 @@ use cases::Line;
 use cases::least;
 use cases::print_changes;
 use cases::print_text;
-use exchange::call::Answer;
 use exchange::call::Call;
 use exchange::header::Header;
 use realm::header::Opening;
@@ -33,9 +34,8 @@ fn print_wire(before: [u64; 9], after: [u64; 9]) {
     print_changes(b", wire ", &before, &after);
 }
 
-// Writes an answer and what has changed.
-fn tell(answer: Answer, before: World, after: World) -> World {
-    print_answer(answer);
+// Writes what has changed, after the answer.
+fn tell(before: World, after: World) -> World {
     print_realm(before.realm, after.realm);
     let old_terms = before.terms;
     let terms = after.terms;
@@ -66,9 +66,13 @@ fn open(w: World, line: Line) -> World {
         Opening::Open(h) => {
             let mut next = w;
             next.realm = h;
-            tell(Answer::Ok, w, next)
+            print_ok();
+            tell(w, next)
         }
-        Opening::Refused(number) => tell(Answer::Refused(number), w, w),
+        Opening::Refused(number) => {
+            print_refused(number);
+            tell(w, w)
+        }
     }
 }
 
@@ -133,7 +137,8 @@ fn make(w: World, c: Call) -> World {
         wire_words: w.wire_words,
         cache_places: w.cache_places,
     };
-    tell(answer, w, next)
+    print_answer(answer);
+    tell(w, next)
 }
 
 // Remembers an entry, or forgets some.
@@ -165,9 +170,13 @@ fn keep(w: World, line: Line) -> World {
         entry::Answer::Count(n) => {
             h.entries = n;
             next.realm = h;
-            tell(Answer::Ok, w, next)
+            print_ok();
+            tell(w, next)
         }
-        entry::Answer::Refused(n) => tell(Answer::Refused(n), w, next),
+        entry::Answer::Refused(n) => {
+            print_refused(n);
+            tell(w, next)
+        }
     }
 }
 

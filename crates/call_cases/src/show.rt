@@ -2,22 +2,47 @@
 use cases::print_changes;
 use cases::print_number;
 use exchange::call::Answer;
+use exchange::call::Names;
 use realm::header::Realm;
 use replay::entry::Entry;
 
+pub fn print_ok() {
+    io::write_all(1, b": ok");
+}
+
+pub fn print_refused(number: u8) {
+    print_number(b": refused ", number as u64);
+}
+
+fn print_names(names: Names) {
+    print_ok();
+    match names {
+        Names::Run(r) => {
+            print_number(b" ", r as u64);
+        }
+        Names::Nobody => {
+            io::write_all(1, b" -");
+        }
+    }
+}
+
+// What a call was answered.
 pub fn print_answer(answer: Answer) {
     match answer {
-        Answer::Number(i) => {
+        Answer::Old(i) => {
             print_number(b": term ", i as u64);
+            io::write_all(1, b" old");
         }
-        Answer::OkRun(r) => {
-            print_number(b": ok ", r as u64);
+        Answer::New(i) => {
+            print_number(b": term ", i as u64);
+            io::write_all(1, b" new");
         }
-        Answer::Ok => {
-            io::write_all(1, b": ok");
+        Answer::Ok { names, added } => {
+            print_names(names);
+            print_number(b" +", added as u64);
         }
-        Answer::Refused(n) => {
-            print_number(b": refused ", n as u64);
+        Answer::Refused(number) => {
+            print_refused(number);
         }
     }
 }

@@ -61,7 +61,7 @@ struct Reply {
     realm: Realm,
     kind: u8,
     number: u16,
-    added: u8,
+    added: u16,
 }
 
 extern "C" {
@@ -89,14 +89,14 @@ pub enum Answer {
     /// A step: the run that it names, if any, and how many terms it added.
     Ok {
         run: Option<u8>,
-        added: u8,
+        added: u16,
     },
     Refused(u8),
 }
 
 impl Answer {
     /// How many terms the call added.
-    pub fn added(self) -> u8 {
+    pub fn added(self) -> u16 {
         match self {
             Answer::New(_) => 1,
             Answer::Ok { added, .. } => added,
@@ -162,7 +162,7 @@ impl Tables {
     }
 }
 
-fn answered(kind: u8, number: u16, added: u8) -> Answer {
+fn answered(kind: u8, number: u16, added: u16) -> Answer {
     match (kind, added) {
         (0, 0) => Answer::Old(number),
         (0, 1) => Answer::New(number),
