@@ -87,7 +87,7 @@ pub fn answered(answer: Result<realm::Answer, reference::refusal::Refusal>) -> A
         Ok(realm::Answer::Old(number)) => Answer::Old(number),
         Ok(realm::Answer::New(number)) => Answer::New(number),
         Ok(realm::Answer::Step { run, added }) => {
-            Answer::Ok { run: run.map(|run| run as u8), added: added as u8 }
+            Answer::Ok { run: run.map(|run| run as u8), added: added as u16 }
         }
         Err(refusal) => Answer::Refused(refusal.number()),
     }

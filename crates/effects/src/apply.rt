@@ -36,7 +36,8 @@ pub fn apply(
     let keeping = effect.keeping;
     let names = effect.names;
     let plan = prepared.plan;
-    let count = h.terms + plan.count;
+    let added = plan.count;
+    let count = h.terms + added;
     write_messages(terms, wire, h.terms, prepared);
     let opened = write_row(runs, h.runs, change);
     let swept = cache_after(h, cache, keeping);
@@ -55,7 +56,7 @@ pub fn apply(
         cache: places,
         answer: Answer::Ok {
             names,
-            added: plan.count as u16,
+            added: added as u16,
         },
     }
 }

@@ -8,7 +8,7 @@ use lent::{Answer, Tables};
 use reference::file::{read_header, read_record, Record, StepRecord, TermRecord};
 use reference::realm::{Answer as Expected, Realm};
 
-fn ok(run: Option<u8>, added: u8) -> Answer {
+fn ok(run: Option<u8>, added: u16) -> Answer {
     Answer::Ok { run, added }
 }
 
@@ -26,7 +26,7 @@ fn compare(name: &str, file: &[u8]) -> usize {
         let expected = match realm.apply(&record) {
             Ok(Expected::Old(number)) => Answer::Old(number),
             Ok(Expected::New(number)) => Answer::New(number),
-            Ok(Expected::Step { run, added }) => ok(run.map(|run| run as u8), added as u8),
+            Ok(Expected::Step { run, added }) => ok(run.map(|run| run as u8), added as u16),
             Err(refusal) => Answer::Refused(refusal.number()),
         };
         assert_eq!(answer, expected, "{name}, record {records}: {record:?}");

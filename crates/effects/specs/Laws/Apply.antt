@@ -3,7 +3,7 @@
 use mathlib.Core.Path.{_≡_, sym, ap, _∙_}
 use mathlib.Core.Bool.{true}
 use mathlib.Core.List.{List}
-use Prim.Native.Nat.{ℕ, _+_, _-_}
+use Prim.Native.Nat.{ℕ, _+_}
 use native.Mathlib.Omega.{arith}
 use borrow.Author.Tests.{le-leb}
 use Rattle.terms.specs.Message.{Message}
@@ -62,5 +62,5 @@ module _ (t : Tables) (x : Effect) where
         tables = tables (realmAfter (t .realm) (x .clock) (t .realm .terms + r .plan .count) opened (swept .count)) ts rs ws (swept .places);
       } ≡ applied t x
       all-applied =
-          let grown : (t .realm .terms + r .plan .count) - t .realm .terms ≡ r .plan .count = omega arith in
+          let grown : appliedWith t x (t .realm .terms + r .plan .count) ts ws .answer ≡ Ok (x .names) (r .plan .count) = ap (Ok (x .names)) (omega arith) in
           rw (← plan-applied, ← kept, sent .0, sent .1, rows .0, rows .1, grown)

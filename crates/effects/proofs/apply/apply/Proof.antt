@@ -12,25 +12,25 @@ lent c = tables (c .args .h) (c .args .terms .now) (c .args .runs .now) (c .args
 
 write-messages-requires : tie.Need-write-messages-requires
 write-messages-requires c κs =
-    let s = c .before .before .before .before .before .before .before .before in
+    let s = c .before .before .before .before .before .before .before in
     let all = s .pre .0 in
     let fit = s .pre .1 in
     (all .terms-hold .size, all .wire-words .len, fit .room, fit .plan .few, fit .plan .marks (fit .room))
 
 write-row-requires : tie.Need-write-row-requires
 write-row-requires c κs =
-    let s = c .before .before .before .before .before .before .before .before .before .before .before .before .before .before in
+    let s = c .before .before .before .before .before .before .before .before .before .before .before .before .before in
     (s .pre .0 .rows-hold .size, row-fits (lent s) (messagesOf (s .args .effect .sends)) (s .args .effect .change) (s .pre .0) (s .pre .1 .fits .row))
 
 cache-after-requires : tie.Need-cache-after-requires
 cache-after-requires c κs =
-    let s = c .before .before .before .before .before .before .before .before .before .before .before .before .before .before .before .before .before in
+    let s = c .before .before .before .before .before .before .before .before .before .before .before .before .before .before .before .before in
     (s .pre .0 .entries-most, entry-fits (lent s) (s .args .effect .keeping) (s .pre .1 .fits .entry))
 
 returns : tie.Need-returns
 returns c =
-    let s = c .before .before .before .before .before .before .before .before .before .before .before .before .before .before .before .before .before .before .before .before in
-    all-applied (lent s) (s .args .effect) (s .pre .1) (c .before .before .before .before .before .before .before .before .before .before .before .write-messages .ensures) (c .before .before .before .before .before .write-row .ensures) (c .before .before .cache-after .ensures)
+    let s = c .before .before .before .before .before .before .before .before .before .before .before .before .before .before .before .before .before .before in
+    all-applied (lent s) (s .args .effect) (s .pre .1) (c .before .before .before .before .before .before .before .before .before .before .write-messages .ensures) (c .before .before .before .before .write-row .ensures) (c .before .cache-after .ensures)
 
 pub apply-spec : {M : Type 1} → statement M
 apply-spec =
