@@ -1,6 +1,6 @@
 -- What the public call leaves as it was, from what the call by value does.
 -- Assumes nothing.
-use Prim.Native.Nat.{ℕ, _+_}
+use Prim.Native.Nat.{ℕ}
 use mathlib.Core.Path.{_≡_, refl, sym, ap, subst, _∙_}
 use mathlib.Core.Bool.{true}
 use mathlib.Core.Logic.{_↔_}
@@ -13,13 +13,12 @@ use Rattle.exchange.specs.declared.call.Answer.{Answer}
 use Rattle.exchange.specs.declared.call.Answer.the-variants.{Refused}
 use Rattle.exchange.specs.declared.call.Call.{Call}
 use Rattle.exchange.specs.declared.call.Call.the-variants.{Term, Step}
-use Rattle.exchange.specs.Calls.{accepts, addedBy, Sized}
+use Rattle.exchange.specs.Calls.{accepts, Sized}
 use Rattle.traces.specs.Realm.{Realm}
-use Rattle.traces.specs.RuleSets.{Reading, read}
+use Rattle.traces.specs.RuleSets.{Reading}
 use Rattle.traces.specs.Terms.{messageFrom}
 use Rattle.kerberos.specs.Log.{Event, Act}
 use Rattle.kerberos.specs.Messages.{parallel}
-use Rattle.kerberos.specs.Reading.{HD}
 use Rattle.kerberos.specs.Rules.{Takes}
 use Rattle.realm.specs.Check.{together}
 use Rattle.realm.specs.Tables.{Tables, Together}
@@ -29,7 +28,7 @@ use Rattle.effects.specs.Promises as effects
 use Rattle.simulation.specs.Engine.{Follows}
 use Rattle.simulation.specs.Exact.{Takable}
 use Rattle.simulation.specs.Promises as simulation
-use Rattle.simulation.specs.Told.{stepTold, termTold}
+use Rattle.simulation.specs.Told.{stepTold, termTold, GrowsBy}
 use Rattle.simulation.specs.Underivable.{Barred}
 use Rattle.simulation.specs.Unread.{Alike}
 use Rattle.simulation.specs.Values.{valuesOf}
@@ -76,9 +75,8 @@ module _ {R : Realm} {t : Tables} {ρ : Reading Event} (f : Follows R t ρ) wher
       → messageFrom (ρ .terms) kind x y ≡ some m → lentCall t (Term kind x y) .answer ≡ termTold 0 (ρ .terms) m
   term-answer kind x y size k made = same-answer t (Term kind x y) (f .together) ∙ simulation.term-answer R t ρ f kind x y size k made
 
-  pub terms-grow : (c : Call) → Sized c → let answer = lentCall t c .answer in length (read HD (accepts answer) c ρ .terms) ≡ length (ρ .terms) + addedBy answer
-  terms-grow c size =
-      subst (λ (x : Answer). length (read HD (accepts x) c ρ .terms) ≡ length (ρ .terms) + addedBy x) (sym (same-answer t c (f .together))) (simulation.terms-grow R t ρ f c size)
+  pub terms-grow : (c : Call) → Sized c → GrowsBy ρ c (lentCall t c .answer)
+  terms-grow c size = subst (GrowsBy ρ c) (sym (same-answer t c (f .together))) (simulation.terms-grow R t ρ f c size)
 
   pub underivable-exact : (step r a b m now : ℕ) → let answer = lentCall t (Step step r a b m now) .answer in (answer ≡ Refused 15) ↔ Barred R ρ step m answer
   underivable-exact step r a b m now =

@@ -4,13 +4,11 @@ use Prim.Native.Nat.{ℕ, suc, _+_, _-_}
 use mathlib.Core.Path.{_≡_}
 use mathlib.Core.List.{List}
 use native.Mathlib.Omega.{arith}
-use lib.ListN.{length}
 use Rattle.words.specs.Word.{packed}
 use Rattle.terms.specs.Add.{addOf, add-elim}
 use Rattle.terms.specs.Number.{termsOf, terms-length}
 use Rattle.terms.specs.Outcome.{TermOutcome}
 use Rattle.sending.specs.Entering.{longer-all}
-use Rattle.sending.specs.Send.{enteredAll}
 use Rattle.exchange.specs.declared.call.Call.{Call}
 use Rattle.exchange.specs.declared.call.Call.the-variants as calls
 use Rattle.exchange.specs.Calls.{addedBy}

@@ -1,7 +1,7 @@
 -- A call is accepted exactly where the rules take it, and its answer is told by the reading. So no condition of a rule could be dropped
 -- or added.
 -- Assumes nothing.
-use Prim.Native.Nat.{ℕ, _+_, _≤_}
+use Prim.Native.Nat.{ℕ, _≤_}
 use mathlib.Core.Path.{_≡_, refl, sym, ap, _∙_, subst}
 use mathlib.Core.Bool.{Bool, true, false, cond}
 use mathlib.Core.List.{List}
@@ -19,7 +19,6 @@ use Rattle.messages.specs.Listed.{insert, addAll}
 use Rattle.messages.specs.Meanings.{meanings}
 use Rattle.sending.specs.Promises.{send-fits}
 use Rattle.sending.specs.Send.{sent, refused, enteredAll, markedAll, fitsIn, sendOf}
-use Rattle.exchange.specs.declared.call.Answer.{Answer}
 use Rattle.exchange.specs.declared.call.Answer.the-variants.{Ok}
 use Rattle.exchange.specs.declared.call.Call.{Call}
 use Rattle.exchange.specs.declared.call.Call.the-variants as calls
@@ -27,7 +26,7 @@ use Rattle.exchange.specs.declared.call.Names.{Names}
 use Rattle.exchange.specs.Calls.{accepts, addedBy, Sized}
 use Rattle.traces.specs.Engines.{Agrees}
 use Rattle.traces.specs.Realm.{Realm}
-use Rattle.traces.specs.RuleSets.{Reading, read}
+use Rattle.traces.specs.RuleSets.{Reading}
 use Rattle.traces.specs.Terms.{TermsFit, messageFrom}
 use Rattle.kerberos.specs.Log.{Event, Act}
 use Rattle.kerberos.specs.Messages.{parallel}
@@ -49,7 +48,7 @@ use Rattle.effects.specs.Call.{numbered, stepped, called}
 use Rattle.simulation.specs.Back.{takes-took, takes-fits}
 use Rattle.simulation.specs.Engine.{Follows, call-takes}
 use Rattle.simulation.specs.TermsBack.{term-accepted}
-use Rattle.simulation.specs.Told.{namedBy, stepTold, termTold, step-grows, term-told}
+use Rattle.simulation.specs.Told.{namedBy, stepTold, termTold, GrowsBy, step-grows, term-told}
 use Rattle.simulation.specs.Values.{valuesOf}
 
 took-told : {t : Tables} {c : Call} {e : Event} {x : Effect} → Took t c e x → x .names ≡ namedBy e
@@ -127,7 +126,7 @@ module _ {R : Realm} (t : Tables) (ρ : Reading Event) (f : Follows R t ρ) wher
   step-answer step r a b m now {act} k =
       let c = calls.Step step r a b m now in
       let told = step-accepted (f .together) ρ own (record { step = step; run = r; a = a; b = b; m = m; t = now }) (by-own c k) in
-      let grows = subst (λ (x : Answer). length (read HD (accepts x) c ρ .terms) ≡ length (ρ .terms) + addedBy x) told (step-grows f step r a b m now) in
+      let grows = subst (GrowsBy ρ c) told (step-grows f step r a b m now) in
       let acted = ap (λ (x : Act). length (addAll (x .1) (ρ .terms))) (rules-read ρ k) in
       told ∙ ap (Ok (namedBy (act .0))) (omega (arith, grows, acted))
 

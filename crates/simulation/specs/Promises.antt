@@ -5,7 +5,7 @@
 -- Kept (of a call). The way back, from the rules to the tables, is Back and TermsBack; both ways together are Exact, and of refusal 15
 -- Underivable. Unread is about places past the counts.
 -- Assumes nothing.
-use Prim.Native.Nat.{ℕ, _+_}
+use Prim.Native.Nat.{ℕ}
 use mathlib.Core.Path.{_≡_, subst}
 use mathlib.Core.Bool.{true}
 use mathlib.Core.List.{List, map}
@@ -16,11 +16,11 @@ use Rattle.terms.specs.Message.{session, Message, key}
 use Rattle.exchange.specs.declared.call.Answer.the-variants.{Refused}
 use Rattle.exchange.specs.declared.call.Call.{Call}
 use Rattle.exchange.specs.declared.call.Call.the-variants.{Term, Step}
-use Rattle.exchange.specs.Calls.{accepts, addedBy, Sized, AllSized}
+use Rattle.exchange.specs.Calls.{accepts, Sized, AllSized}
 use Rattle.traces.specs.Engines.{Agrees, after, history}
 use Rattle.traces.specs.Promises.{tables-agree}
 use Rattle.traces.specs.Realm.{Realm, HeaderPasses}
-use Rattle.traces.specs.RuleSets.{Reading, read, reading}
+use Rattle.traces.specs.RuleSets.{Reading, reading}
 use Rattle.traces.specs.Terms.{messageFrom}
 use Rattle.kerberos.specs.Agreement.{Demand3}
 use Rattle.kerberos.specs.Log.{Event, Act}
@@ -37,7 +37,7 @@ use Rattle.simulation.specs.Exact as exact
 use Rattle.simulation.specs.Exact.{Takable}
 use Rattle.simulation.specs.Idle as idle
 use Rattle.simulation.specs.Told as told
-use Rattle.simulation.specs.Told.{stepTold, termTold}
+use Rattle.simulation.specs.Told.{stepTold, termTold, GrowsBy}
 use Rattle.simulation.specs.Underivable as underivable
 use Rattle.simulation.specs.Underivable.{Barred}
 use Rattle.simulation.specs.Unread.{Alike, answers-alike, tables-alike}
@@ -67,8 +67,7 @@ pub term-answer : (R : Realm) (t : Tables) (ρ : Reading Event) → Follows R t 
 term-answer R t ρ f kind x y size k made = exact.term-answer t ρ f kind x y size k made
 
 -- Whatever it is answered, the reading's table grows by as many terms as the answer tells.
-pub terms-grow : (R : Realm) (t : Tables) (ρ : Reading Event) → Follows R t ρ → (c : Call) → Sized c
-    → let answer = called t c .answer in length (read HD (accepts answer) c ρ .terms) ≡ length (ρ .terms) + addedBy answer
+pub terms-grow : (R : Realm) (t : Tables) (ρ : Reading Event) → Follows R t ρ → (c : Call) → Sized c → GrowsBy ρ c (called t c .answer)
 terms-grow R t ρ f c size = told.terms-grow f c size
 
 -- 15 is given exactly where the step can have it, nothing before it applies, and the intruder cannot deliver m.

@@ -92,7 +92,7 @@ by-fields n ts at (suc (suc (suc (suc (suc kind))))) x y e f = tt
 -- the word w of a term is accepted as number i of ts′, which has `count′` terms
 module _ {n : ℕ} {ts : List ℕ} {count : ℕ} (v : Valid n ts count) (kind x y : ℕ) (size : Sized (Term kind x y)) {i count′ : ℕ} {ts′ : List ℕ}
     (e : addOf n ts count (packed kind x y) ≡ accept i count′ ts′) where
-  pub valid : Valid n ts′ count′
+  valid : Valid n ts′ count′
   valid = subst (λ (o : TermOutcome). Valid n (o .table) (o .count)) e (adds v (packed kind x y) .valid)
 
   pub is : (i < count′) × (getD ts′ i 0 ≡ packed kind x y) × Extends n ts count ts′ count′

@@ -37,7 +37,7 @@ use Rattle.realm.specs.Tables.{Tables}
 use Rattle.effects.specs.Call.{numbered, called}
 use Rattle.effects.specs.Promises.{added-counted}
 use Rattle.simulation.specs.Engine.{Follows, Matches, call-matches, step-matches}
-use Rattle.simulation.specs.Terms.{valid, is, way, older, term-made, term-fresh}
+use Rattle.simulation.specs.Terms.{is, way, older, term-made, term-fresh}
 use Rattle.simulation.specs.Values.{valuesOf}
 
 -- ---- definitions
@@ -64,21 +64,24 @@ abbrev pub termTold : (at : ℕ) (terms : List Message) → Message → Answer
 termTold at [] m = New at
 termTold at (x ∷ terms) m = ite (same m x) (Old at) (termTold (suc at) terms m)
 
--- ---- the reading's table grows by what is told
+-- the reading's table grows by as many terms as a call was answered
+abbrev pub GrowsBy : Reading Event → Call → Answer → Type 0
+GrowsBy ρ c answer = length (read HD (accepts answer) c ρ .terms) ≡ length (ρ .terms) + addedBy answer
+
+-- ---- the reading's table
 
 module _ {R : Realm} {t : Tables} {ρ : Reading Event} (f : Follows R t ρ) where
   counted : (u : Tables) (σ : Reading Event) → Agrees HD R (valuesOf u) σ → u .realm .terms ≡ length (σ .terms)
   counted u σ a = sym (meanings-length (u .terms) (u .realm .terms)) ∙ ap length (a .terms-are)
 
-  grown : (c : Call) → let o = called t c in let σ = read HD (accepts (o .answer)) c ρ in Matches R (o .tables) σ → length (σ .terms) ≡ length (ρ .terms) + addedBy (o .answer)
+  grown : (c : Call) → let o = called t c in Matches R (o .tables) (read HD (accepts (o .answer)) c ρ) → GrowsBy ρ c (o .answer)
   grown c m = omega (arith, counted (called t c .tables) _ (m .agrees), counted t ρ (f .agrees), added-counted t (f .together) c)
 
-  pub terms-grow : (c : Call) → Sized c → let answer = called t c .answer in length (read HD (accepts answer) c ρ .terms) ≡ length (ρ .terms) + addedBy answer
+  pub terms-grow : (c : Call) → Sized c → GrowsBy ρ c (called t c .answer)
   terms-grow c size = grown c (call-matches t ρ c size f)
 
   -- whatever the fields of a step
-  pub step-grows : (step r a b m now : ℕ) → let c = calls.Step step r a b m now in let answer = called t c .answer in
-      length (read HD (accepts answer) c ρ .terms) ≡ length (ρ .terms) + addedBy answer
+  pub step-grows : (step r a b m now : ℕ) → let c = calls.Step step r a b m now in GrowsBy ρ c (called t c .answer)
   unfolding called
   step-grows step r a b m now = grown (calls.Step step r a b m now) (step-matches f (record { step = step; run = r; a = a; b = b; m = m; t = now }))
 
