@@ -1,4 +1,5 @@
--- Case F of document 01 ("File and listing"), byte for byte: what the definition of the listing gives for its file.
+-- Case F of document 01 ("File and listing"), byte for byte: what the definition of the listing gives for its file. It is restated by
+-- document 02, change 3: "its accepted steps add 5, 11, 1, 0, 1, 0 and 0 terms in turn".
 -- Assumes nothing.
 use Prim.Native.Nat.{ℕ}
 use mathlib.Core.Path.{_≡_, refl}

@@ -39,7 +39,7 @@ pub use Rattle.walkfile.specs.Buffer.{short-kept, start-is, rest-kept, c
 -- a file that refusal 1 or 2 turns away has one line, and case F has the paper's
 pub use Rattle.walkfile.specs.Ways.{header-refused, opening-refused}
 pub use Rattle.walkfile.specs.CaseF.{printed}
--- a file that begins with no other mark than HD has the listing of document 01, whatever its bytes
+-- a file that begins with no other mark than HD has the listing of document 01, whose lines end as change 3 says, whatever its bytes
 pub use Rattle.walkfile.specs.HdListing.{listed-as-before}
 
 -- ---- the list of calls
