@@ -6,9 +6,10 @@ use mathlib.Core.HLevel.{Discrete}
 use mathlib.Core.List.{List, [], _∷_, _++_}
 use mathlib.Core.Logic.{ite}
 use mathlib.Core.Option.{Option, some, Option·some-injective}
-use mathlib.Core.Path.{_≡_, refl, ap}
+use mathlib.Core.Path.{_≡_, refl, sym, ap, _∙_}
 use native.Mathlib.Decide.{ℕ-discrete}
 use lib.ListN.{getElem?}
+use Rattle.terms.specs.Choice.{ite-holds, ite-fails}
 use Rattle.terms.specs.Message.{Message, principal, time, nonce, key, pair, encrypted, Key-discrete, Message-discrete}
 
 -- ---- definitions
@@ -44,21 +45,12 @@ present-rest : {m x : Message} (d : Dec (m ≡ x)) (terms : List Message) → in
 present-rest (yes e) terms h = refl
 present-rest (no ne) terms h = h
 
-here-rest : {m x : Message} (d : Dec (m ≡ x)) (terms : List Message) → x ≡ m → ite d terms (insert m terms) ≡ terms
-here-rest (yes e) terms h = refl
-here-rest (no ne) terms h = absurd (ne (cc))
-
 pub insert-present : (m : Message) (terms : List Message) (i : ℕ) → termAt terms i ≡ some m → insert m terms ≡ terms
 insert-present m [] i e = cc
-insert-present m (x ∷ terms) zero e = ap {B = List Message} (λ t. x ∷ t) (here-rest (same m x) terms (Option·some-injective _ _ e))
+insert-present m (x ∷ terms) zero e = ap {B = List Message} (λ t. x ∷ t) (ite-holds (same m x) terms (insert m terms) (sym (Option·some-injective _ _ e)))
 insert-present m (x ∷ terms) (suc i) e = ap {B = List Message} (λ t. x ∷ t) (present-rest (same m x) terms (insert-present m terms i e))
-
-new-rest : {m x : Message} (d : Dec (m ≡ x)) (terms : List Message) → insert m terms ≡ terms ++ (m ∷ []) → ¬ (m ≡ x)
-    → ite d terms (insert m terms) ≡ terms ++ (m ∷ [])
-new-rest (yes e) terms h ne = absurd (ne e)
-new-rest (no _) terms h ne = h
 
 pub insert-new : (m : Message) (terms : List Message) → ((i : ℕ) → ¬ (termAt terms i ≡ some m)) → insert m terms ≡ terms ++ (m ∷ [])
 insert-new m [] h = refl
 insert-new m (x ∷ terms) h =
-    ap {B = List Message} (λ t. x ∷ t) (new-rest (same m x) terms (insert-new m terms (λ i. h (suc i))) (λ e. h 0 (cc)))
+    ap {B = List Message} (λ t. x ∷ t) (ite-fails (same m x) terms (insert m terms) (λ e. h 0 (cc)) ∙ insert-new m terms (λ i. h (suc i)))

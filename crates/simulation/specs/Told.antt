@@ -12,7 +12,7 @@ use native.Mathlib.Omega.{arith}
 use lib.ListN.{length}
 use Rattle.words.specs.Word.{packed}
 use Rattle.terms.specs.Add.{addOf}
-use Rattle.terms.specs.Choice.{no-true}
+use Rattle.terms.specs.Choice.{no-true, ite-holds, ite-fails}
 use Rattle.terms.specs.Meaning.{messageAt}
 use Rattle.terms.specs.Message.{Message}
 use Rattle.terms.specs.Number.{messages-once}
@@ -87,21 +87,12 @@ module _ {R : Realm} {t : Tables} {ρ : Reading Event} (f : Follows R t ρ) wher
 
 -- ---- a term
 
--- by whether the first is the message
-first-old : {A : Type 0} {m x : Message} (d : Dec (m ≡ x)) (old rest : A) → m ≡ x → ite d old rest ≡ old
-first-old (yes _) old rest e = refl
-first-old (no ne) old rest e = absurd (ne e)
-
-first-other : {A : Type 0} {m x : Message} (d : Dec (m ≡ x)) (old rest : A) → ¬ (m ≡ x) → ite d old rest ≡ rest
-first-other (yes e) old rest ne = absurd (ne e)
-first-other (no _) old rest ne = refl
-
 -- a term that is present once is told old,
 present-told : (at : ℕ) (terms : List Message) (m : Message) (i : ℕ) → termAt terms i ≡ some m → ((k : ℕ) → termAt terms k ≡ some m → k ≡ i) → termTold at terms m ≡ Old (at + i)
 present-told at [] m i e once = cc
-present-told at (x ∷ terms) m zero e once = first-old (same m x) _ _ (sym (Option·some-injective _ _ e)) ∙ ap Old (omega arith)
+present-told at (x ∷ terms) m zero e once = ite-holds (same m x) _ _ (sym (Option·some-injective _ _ e)) ∙ ap Old (omega arith)
 present-told at (x ∷ terms) m (suc i) e once =
-    first-other (same m x) _ _ (λ q. let z : 0 ≡ suc i = once 0 (ap some (sym q)) in absurd (omega arith))
+    ite-fails (same m x) _ _ (λ q. let z : 0 ≡ suc i = once 0 (ap some (sym q)) in absurd (omega arith))
     ∙ present-told (suc at) terms m i e (λ k q. let z : suc k ≡ suc i = once (suc k) q in omega arith)
     ∙ ap Old (omega arith)
 
@@ -109,7 +100,7 @@ present-told at (x ∷ terms) m (suc i) e once =
 absent-told : (at : ℕ) (terms : List Message) (m : Message) → ((k : ℕ) → ¬ (termAt terms k ≡ some m)) → termTold at terms m ≡ New (at + length terms)
 absent-told at [] m none = ap New (omega arith)
 absent-told at (x ∷ terms) m none =
-    first-other (same m x) _ _ (λ q. none 0 (ap some (sym q))) ∙ absent-told (suc at) terms m (λ k. none (suc k)) ∙ ap New (omega arith)
+    ite-fails (same m x) _ _ (λ q. none 0 (ap some (sym q))) ∙ absent-told (suc at) terms m (λ k. none (suc k)) ∙ ap New (omega arith)
 
 module _ {n : ℕ} {ts : List ℕ} {count : ℕ} (v : Valid n ts count) (kind x y : ℕ) (size : Sized (calls.Term kind x y)) {m : Message}
     (made : messageFrom (meanings ts count) kind x y ≡ some m) where

@@ -1,7 +1,9 @@
--- What a Bool that was computed says, of the tests (`&&`, `cond`) that definitions which follow the code are made of.
+-- What a Bool that was computed says, of the tests (`&&`, `cond`) that definitions which follow the code are made of; and which way a
+-- decided proposition (`ite`) goes.
 -- Assumes nothing.
 use mathlib.Core.Path.{_≡_, refl, sym}
 use mathlib.Core.Bool.{Bool, true, false, _&&_, false≢true, cond}
+use mathlib.Core.Logic.{ite}
 
 -- ---- definitions
 
@@ -33,6 +35,14 @@ cond-first false f e = absurd (f e)
 pub and-same : (a b c : Bool) → (a ≡ true → b ≡ c) → a && b ≡ a && c
 and-same true b c f = f refl
 and-same false b c f = refl
+
+pub ite-holds : {P A : Type 0} (d : Dec P) (a b : A) → P → ite d a b ≡ a
+ite-holds (yes _) a b p = refl
+ite-holds (no f) a b p = absurd (f p)
+
+pub ite-fails : {P A : Type 0} (d : Dec P) (a b : A) → ¬ P → ite d a b ≡ b
+ite-fails (yes p) a b f = absurd (f p)
+ite-fails (no _) a b f = refl
 
 pub proved : {P : Type 0} → P → Decides true P
 proved p = record { yes = λ _. p; no = λ e. no-true (sym e) }
