@@ -1,4 +1,4 @@
--- What the public call leaves as it was, from what the call by value does.
+-- What the public call leaves as it was and what it answers, from what the call by value does.
 -- Assumes nothing.
 use Prim.Native.Nat.{ℕ}
 use mathlib.Core.Path.{_≡_, refl, sym, ap, subst, _∙_}

@@ -1,6 +1,6 @@
 -- "every step that adds terms must know how many it added", and so does TM: an answer tells how many terms the table has more.
 -- Assumes nothing.
-use Prim.Native.Nat.{ℕ, suc, _+_, _-_}
+use Prim.Native.Nat.{ℕ, _+_, _-_}
 use mathlib.Core.Path.{_≡_}
 use mathlib.Core.List.{List}
 use native.Mathlib.Omega.{arith}
@@ -20,16 +20,15 @@ use Rattle.decisions.specs.Decision.{decision}
 use Rattle.decisions.specs.Effects.{messagesOf}
 use Rattle.effects.specs.Apply.{applied}
 use Rattle.effects.specs.Call.{numbered, byVerdict, stepped, called}
+use Rattle.effects.specs.Kept.{same-old, more-new}
 
 -- ---- TM
 
 -- a term that is present adds none, a new one adds one
 term-counted : (n : ℕ) (ts : List ℕ) (count w : ℕ) → let o = addOf n ts count w in o .count ≡ count + addedBy (numbered (o .answer) (o .count - count))
 term-counted n ts count w =
-    let none : count - count ≡ 0 = omega arith in
-    let one : suc count - count ≡ 1 = omega arith in
     add-elim (λ (o : TermOutcome). o .count ≡ count + addedBy (numbered (o .answer) (o .count - count))) n ts count w (omega arith) (omega arith)
-    (λ _ i _. rw none (omega arith)) (λ _ _ _. rw one (omega arith))
+    (λ _ i _. rw (same-old i count) (omega arith)) (λ _ _ _. rw (more-new count count) (omega arith))
 
 -- ---- any call
 

@@ -5,12 +5,13 @@ use mathlib.Core.Path.{_≡_, refl, sym, ap, ap₂, _∙_}
 use mathlib.Core.Bool.{true}
 use mathlib.Core.List.{List}
 use mathlib.Core.Logic.{_↔_}
+use native.Mathlib.Omega.{arith}
 use Rattle.terms.specs.Add.{addOf, add-elim}
 use Rattle.terms.specs.Choice.{no-true}
 use Rattle.terms.specs.Outcome.{TermOutcome, number}
 use Rattle.words.specs.Word.{packed}
 use Rattle.exchange.specs.declared.call.Answer.{Answer}
-use Rattle.exchange.specs.declared.call.Answer.the-variants.{Refused}
+use Rattle.exchange.specs.declared.call.Answer.the-variants.{Old, New, Refused}
 use Rattle.exchange.specs.declared.call.Call.{Call}
 use Rattle.exchange.specs.declared.call.Call.the-variants as calls
 use Rattle.exchange.specs.Calls.{accepts}
@@ -26,7 +27,14 @@ use Rattle.effects.specs.Call.{numbered, withCount, byVerdict, stepped, 
 pub never : {A : Type 0} (a : Answer) {k : ℕ} → accepts a ≡ true → a ≡ Refused k → A
 never a t e = no-true (sym (ap accepts e) ∙ t)
 
--- a term's number accepts, whether the table has grown or not
+-- a table that has not grown tells old, one with a term more new;
+pub same-old : (i count : ℕ) → numbered (number i) (count - count) ≡ Old i
+same-old i count = let none : count - count ≡ 0 = omega arith in rw none
+
+pub more-new : (i count : ℕ) → numbered (number i) (suc count - count) ≡ New i
+more-new i count = let one : suc count - count ≡ 1 = omega arith in rw one
+
+-- both accept
 pub number-accepts : (i grown : ℕ) → accepts (numbered (number i) grown) ≡ true
 number-accepts i zero = refl
 number-accepts i (suc grown) = refl

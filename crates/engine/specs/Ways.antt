@@ -1,6 +1,6 @@
 -- The ways out of a call, over plain variables: the code's proofs cite them.
 -- Assumes nothing.
-use Prim.Native.Nat.{ℕ, suc, _+_, _-_, _<_}
+use Prim.Native.Nat.{ℕ, suc, _+_, _<_}
 use native.Mathlib.Numerals.{add-one}
 use native.Mathlib.Omega.{arith}
 use mathlib.Core.Path.{_≡_, refl, sym, ap, subst}
@@ -24,6 +24,7 @@ use Rattle.decisions.specs.Decision.{decision}
 use Rattle.sending.specs.declared.Prepared.{Prepared}
 use Rattle.deciding.specs.Decided.{Writable, WritableBy}
 use Rattle.effects.specs.Apply.{refuse, applied}
+use Rattle.effects.specs.Kept.{same-old, more-new}
 use Rattle.effects.specs.Call.{withCount, Adding, adding, withAdding, byVerdict, stepped, called, checked}
 
 -- ---- ST
@@ -72,7 +73,7 @@ step-called t step run a b m time = refl
 -- a table that has not grown says old, and with one term more, as the code counts, new
 module _ (h : Realm) (i : ℕ) (ts : List ℕ) where
   pub old-told : record { answer = answers.Old i; realm = h; table = ts } ≡ adding h (terms.accept i (h .terms) ts)
-  old-told = let same : h .terms - h .terms ≡ 0 = omega arith in rw same
+  old-told = rw (same-old i (h .terms))
 
   pub new-told : record { answer = answers.New i; realm = withCount h (h .terms + 1); table = ts } ≡ adding h (terms.accept i (suc (h .terms)) ts)
-  new-told = let more : suc (h .terms) - h .terms ≡ 1 = omega arith in rw (more, add-one (h .terms))
+  new-told = rw (more-new i (h .terms), add-one (h .terms))

@@ -2,8 +2,8 @@
 -- equations with it. Reading order: Values (tables as the reading has them), Engine (a list of calls from a new realm), Cases (the
 -- paper's lettered cases). How it is shown: Rules (what a step that is taken has met is what the rules ask for), Mirrors (an effect
 -- beside an event), Follows (of writing an effect, over Runs, Entries and Wire), Terms (of adding a term), Taken (of a step) and
--- Kept (of a call). The way back, from the rules to the tables, is Back and TermsBack; both ways together are Exact, and of refusal 15
--- Underivable. Unread is about places past the counts.
+-- Kept (of a call). The way back, from the rules to the tables, is Back and TermsBack; both ways together are Exact, with what
+-- an answer tells from Told, and of refusal 15 Underivable. Unread is about places past the counts.
 -- Assumes nothing.
 use Prim.Native.Nat.{ℕ}
 use mathlib.Core.Path.{_≡_, subst}

@@ -35,6 +35,7 @@ use Rattle.kerberos.specs.Log.{Event, Initiate, Respond, Issue, Authenticate, A
 use Rattle.kerberos.specs.Reading.{HD}
 use Rattle.realm.specs.Tables.{Tables}
 use Rattle.effects.specs.Call.{numbered, called}
+use Rattle.effects.specs.Kept.{same-old, more-new}
 use Rattle.effects.specs.Promises.{added-counted}
 use Rattle.simulation.specs.Engine.{Follows, Matches, call-matches, step-matches}
 use Rattle.simulation.specs.Terms.{is, way, older, term-made, term-fresh}
@@ -114,17 +115,16 @@ module _ {n : ℕ} {ts : List ℕ} {count : ℕ} (v : Valid n ts count) (kind x 
 
       by-eq : Dec (count′ ≡ count) → numbered (number i) (count′ - count) ≡ termTold 0 (meanings ts count) m
       by-eq (yes z) =
-          let none : count′ - count ≡ 0 = omega arith in
           let below : i < count = omega (arith, is v kind x y size e .0) in
           let here : messageAt ts i ≡ m = older v kind x y size e i below ∙ means in
-          rw none
-          (sym (present-told 0 (meanings ts count) m i (meanings-at ts count i below ∙ ap some here)
+          rw z
+          (same-old i count ∙ sym (present-told 0 (meanings ts count) m i (meanings-at ts count i below ∙ ap some here)
           (λ k w. let p = at-meanings ts count k m w in messages-once v k i (p .0) below (p .1 ∙ sym here)) ∙ ap Old (omega arith)))
       by-eq (no ne) =
           let more : count < count′ = omega (arith, is v kind x y size e .2 .more) in
-          let one : count′ - count ≡ 1 = omega (arith, way v kind x y size e .1) in
+          let one : count′ ≡ suc count = omega (arith, way v kind x y size e .1) in
           rw one
-          (sym (absent-told 0 (meanings ts count) m (λ k w. term-fresh v kind x y size e more k (w ∙ ap some (sym means)))
+          (more-new i count ∙ sym (absent-told 0 (meanings ts count) m (λ k w. term-fresh v kind x y size e more k (w ∙ ap some (sym means)))
           ∙ ap New (omega (arith, meanings-length ts count, way v kind x y size e .2 more))))
 
   pub term-told : let o = addOf n ts count (packed kind x y) in let answer = numbered (o .answer) (o .count - count) in
