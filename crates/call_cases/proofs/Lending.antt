@@ -1,7 +1,6 @@
 -- Seventeen places of entries, as MIR has them, and how the first of them are lent as a `&mut [Entry]` and come back, as steps of
 -- a walk.
 --   Seventeen, T-mir, T-tells, T-typed, seventeen: the laws of `[Entry; 17]`
---   FieldIs, field-is: as a field of a struct
 --   part, part-size, Loan, Rest: the slice of the first k places, and what is kept meanwhile
 --   lends: the first k places are lent for a lifetime that is made for the loan
 --   comes-back: the lifetime ends, and the places hold what the slice held last
@@ -38,6 +37,7 @@ use borrow.Rule.Array.Share.{room-take}
 use Rattle.replay.specs.declared.entry.Entry.{Entry}
 use Rattle.replay.proofs.entry.Entry as 𝓔
 use Rattle.replay.proofs.entry.Entry.Laws as 𝓔′
+use Rattle.lent_cache.proofs.Lending as lending
 use Rattle.lent_cache.proofs.Rows.{R, R-vals, R-tells, R-typed, S-vals, S-val, array-in, array-out}
 
 abbrev pub Seventeen : RattleType
@@ -51,25 +51,6 @@ T-tells = array-tells R R-vals R-tells 17
 
 pub seventeen : (xs : List Entry) (vs : List Val) → Is Seventeen xs vs → length xs ≡ 17
 seventeen xs vs p = p .1 .0 .1
-
--- the entries' relation, as an array by itself has it and as a struct has it
-each-of : (xs : List Entry) (us : List Val) → shadow (each Entry (R .own) xs us) → shadow (each (𝓔.the-field .row .Denot) (𝓔.the-field .row .own) (map (𝓔.the-field .into) xs) us)
-each-of [] [] s = tt
-each-of [] (u ∷ us) s = absurd s
-each-of (x ∷ xs) [] s = absurd s
-each-of (x ∷ xs) (u ∷ us) s = (s .0, each-of xs us (s .1))
-
-abbrev field : SL.FLaws (array-field 𝓔.the-field 17)
-field = SL.array-laws 𝓔.the-field 𝓔′.the-field-laws 17
-
-abbrev pub FieldIs : List Entry → Type 0
-FieldIs xs = Is (Array (𝓔.the-field .row) 17) (map (𝓔.the-field .into) xs) (field .val (map (𝓔.the-field .into) xs) ∷ [])
-
-pub field-is : (xs : List Entry) (vs : List Val) → Is Seventeen xs vs → FieldIs xs
-field-is xs vs p =
-    let ys : List (𝓔.the-field .row .Denot) = map (𝓔.the-field .into) xs in
-    let q : Is (Array (𝓔.the-field .row) 17) ys vs = (p .0, ((p .1 .0 .0, length-map xs (𝓔.the-field .into) ∙ p .1 .0 .1), each-of xs (p .0) (p .1 .1))) in
-    subst (Is (Array (𝓔.the-field .row) 17) ys) (field .tells ys vs q) q
 
 module _ {M : Type 1} (𝓤 : URA M) (H : Heap 𝓤) (A : Atoms 𝓤) (W : Given 𝓤 H A) where
   pub T-typed : (xs : List Entry) (vs : List Val) → Is Seventeen xs vs → Typed (Seventeen .mir) vs
@@ -100,15 +81,14 @@ module _ {M : Type 1} {𝓤 : URA M} {H : Heap 𝓤} {A : Atoms 𝓤} {K : Type 
   lends t s xs k l is f =
       use1 W (‵ (row R fullShare xs l 0)) (array-in 𝓤 H A W 17 xs l is) $ use1 W (‵ (cells (mem R) xs l 0)) (whole-in 𝓤 H A W R xs l 0) $
       rewrite t 0 (λ (ys : List Entry). ‵ (cells (mem R) ys l 0)) (sym (take-append-drop k xs)) refl $
-      use1 W (‵ (cells (mem R) (take k xs) l 0) ⊛ ‵ (Rest xs k l)) (cut-app 𝓤 H A (mem R) (take k xs) (drop k xs) l 0) $ split t $ lft-new t s (λ α. move t (1 ∷ []) $
-      use1 W (later (some (λ (γ : GName). ‵ (MutSlice (named 0) (α ∷ []) R .own (part xs k l γ) (sliceVal (l, 0) (length (take k xs)) ∷ [])) ⊛ ‵ (Loan xs k l α γ))))
-      (lends-slice 𝓤 H A W R (named 0) (α ∷ []) (take k xs) l 0 (part-room xs k (seventeen xs _ is))) $ await t s $ pick t (λ γ. split t $ move t (2 ∷ []) $ f α γ))
+      use1 W (‵ (cells (mem R) (take k xs) l 0) ⊛ ‵ (Rest xs k l)) (cut-app 𝓤 H A (mem R) (take k xs) (drop k xs) l 0) $ split t $
+      use1 W (‵ (row R fullShare (take k xs) l 0)) (whole-out 𝓤 H A W R (take k xs) l 0) $ lending.lends t s (take k xs) l 0 (part-room xs k (seventeen xs _ is)) f
 
   pub comes-back : K → Soaks G → (xs ys : List Entry) (k l α : ℕ) (γ : GName) → length xs ≡ 17 → length ys ≡ length (take k xs)
       → (Is Seventeen (ys ++ drop k xs) (S-vals (ys ++ drop k xs)) → Seq K W (‵ (fat fullShare T-mir l 0 (S-val (ys ++ drop k xs))) ∷ Γ) G)
       → Seq K W (‵ (flft (α ∷ []) fullShare) ∷ ‵ (Loan xs k l α γ) ∷ ‵ (finally R γ ys) ∷ ‵ (Rest xs k l) ∷ Γ) G
   comes-back t s xs ys k l α γ size same f =
-      lft-end t s $ use3 W (later (‵ (Arr (mem R) (length (take k xs)) .lies ys l 0))) (slice-back 𝓤 H A W R (α ∷ []) γ ys (length (take k xs)) l 0) $ await t s $ fsplit t $ feqL t (λ e.
-      rewrite t 1 (λ (m : ℕ). ‵ (cells (mem R) (drop k xs) l (at 0 (mem R .size) m))) (sym e) refl $
+      lending.comes-back t s (take k xs) ys l 0 α γ $ use1 W (‵ (cells (mem R) ys l 0)) (whole-in 𝓤 H A W R ys l 0) $
+      rewrite t 1 (λ (m : ℕ). ‵ (cells (mem R) (drop k xs) l (at 0 (mem R .size) m))) (sym same) refl $
       use2 W (‵ (cells (mem R) (ys ++ drop k xs) l 0)) (join-app 𝓤 H A (mem R) ys (drop k xs) l 0) $ use1 W (‵ (row R fullShare (ys ++ drop k xs) l 0)) (whole-out 𝓤 H A W R (ys ++ drop k xs) l 0) $
-      use1 W (given (Is Seventeen (ys ++ drop k xs) (S-vals (ys ++ drop k xs))) (‵ (fat fullShare T-mir l 0 (S-val (ys ++ drop k xs))))) (array-out 𝓤 H A W 17 (ys ++ drop k xs) l (same-len k xs ys same ∙ size)) $ learn t f)
+      use1 W (given (Is Seventeen (ys ++ drop k xs) (S-vals (ys ++ drop k xs))) (‵ (fat fullShare T-mir l 0 (S-val (ys ++ drop k xs))))) (array-out 𝓤 H A W 17 (ys ++ drop k xs) l (same-len k xs ys same ∙ size)) $ learn t f

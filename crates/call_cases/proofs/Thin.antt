@@ -46,13 +46,13 @@ use Rattle.replay.specs.declared.entry.Answer.{Answer}
 use Rattle.replay.specs.Cache.{cacheOutcome}
 use Rattle.replay.proofs.entry.Answer as 𝓒
 use Rattle.replay.proofs.entry.Answer.Laws as 𝓒′
-use Rattle.lent_cache.proofs.Change.{Call, lent, lent-clauses}
-use Rattle.lent_cache.proofs.Returned.{answer-val, answer-typed}
+use Rattle.lent_cache.proofs.Calls.{Call, lent, lent-clauses}
+use Rattle.lent_cache.proofs.Returned.{answer-val, answer-typed, field-is}
 use Rattle.lent_cache.proofs.Rows.{R, S-vals, S-val}
 use Rattle.call_cases.specs.declared.lent.Kept.{Kept}
 use Rattle.call_cases.proofs.lent.Kept as 𝓚
 use Rattle.call_cases.proofs.lent.Kept.Laws as 𝓚′
-use Rattle.call_cases.proofs.Lending.{Seventeen, T-mir, T-tells, T-typed, seventeen, part-size, field-is, part, lends, comes-back}
+use Rattle.call_cases.proofs.Lending.{Seventeen, T-mir, T-tells, T-typed, seventeen, part-size, part, lends, comes-back}
 
 -- ---- what is given back
 
@@ -70,7 +70,7 @@ answer-as r vs p = subst (Is 𝓒.the-row r) (answer-tells r vs p) p
 
 kept-is : (xs : List Entry) (r : Answer) → Is Seventeen xs (S-vals xs) → Is 𝓒.the-row r (answer-val r ∷ []) → Is 𝓚.the-row (kept xs r) (kept-val (kept xs r) ∷ [])
 kept-is xs r p q =
-    let w = SL.owes 𝓚.the-type 𝓚′.the-laws (kept xs r) (field-is xs _ p, (subst (Is 𝓒.the-row r) (EL.tells 𝓒.the-type 𝓒′.the-laws r _ q) q, tt)) in
+    let w = SL.owes 𝓚.the-type 𝓚′.the-laws (kept xs r) (field-is 17 xs _ p, (subst (Is 𝓒.the-row r) (EL.tells 𝓒.the-type 𝓒′.the-laws r _ q) q, tt)) in
     subst (Is 𝓚.the-row (kept xs r)) (𝓚′.lowers .val-is (kept xs r) _ w) w
 
 -- ---- the body and its contract

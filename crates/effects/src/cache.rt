@@ -1,9 +1,9 @@
 // What an effect does to the replay cache.
 use decisions::Keeping;
+use lent_cache::pass::sweep;
 use realm::header::Realm;
 use replay::cache::Swept;
 use replay::cache::append;
-use replay::cache::sweep;
 use replay::entry::Entry;
 use replay::entry::Purge;
 ghost use mathlib.Core.Path.{_≡_};

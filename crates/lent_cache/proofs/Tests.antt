@@ -3,7 +3,7 @@
 --   guards: it holds and the function returns, or it fails and the body goes on
 --   ne-holds, ne-fails: what a test `a != b` says where it holds, and where it fails
 -- Assumes nothing.
-use mathlib.Core.Path.{_≡_, subst}
+use mathlib.Core.Path.{_≡_, refl, subst}
 use Prim.Native.Nat.{ℕ}
 use mathlib.Core.List.{List}
 use lib.Dec.{T, T-not, eqb, eqb→eq, eqb-refl}
@@ -35,3 +35,12 @@ twice false h = h
 
 pub ne-fails : (a b : ℕ) → T (not (not (eqb a b))) → a ≡ b
 ne-fails a b h = eqb→eq a b (twice (eqb a b) h)
+
+-- what a test that a call gives says where it holds, and where it fails
+pub holds : (t : Bool) → T t → t ≡ true
+holds true h = refl
+holds false h = absurd h
+
+pub fails : (t : Bool) → T (not t) → t ≡ false
+fails true h = absurd h
+fails false h = refl

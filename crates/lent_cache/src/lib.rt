@@ -1,8 +1,11 @@
-// The replay cache on a list of records that the caller lends: the entries are loaded, the call is made by value, and the
-// places are stored back. Each function with a `&[Entry]` or a `&mut [Entry]` in it is proved by a walk of its MIR, by hand.
+// The replay cache on a list of records that the caller lends. To remember, the entries are loaded, the call is made by value, and
+// the places are stored back; to forget, one pass goes over the list itself. Each function with a `&[Entry]` or a `&mut [Entry]`
+// in it is proved by a walk of its MIR, by hand.
+pub mod pass; // forgetting in one pass
 ghost use mathlib.Core.Path.{_≡_};
 ghost use lib.ListN.{length};
 ghost use Rattle.replay.specs.Cache.{cacheOutcome, remembered, forgotten};
+use crate::pass::pass_over;
 use replay::cache;
 use replay::entry::Answer;
 use replay::entry::EMPTY;
@@ -56,7 +59,8 @@ pub fn forget(list: &mut [Entry], count: usize, p: Purge) -> Answer
     if list.len() != PLACES {
         return Answer::Refused(REFUSE_TABLES);
     }
-    let after = cache::forget(load(list), count, p);
-    store(list, after.places);
-    after.answer
+    if PLACES < count {
+        return Answer::Refused(REFUSE_TABLES);
+    }
+    Answer::Count(pass_over(list, count, p))
 }

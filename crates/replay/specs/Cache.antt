@@ -4,6 +4,7 @@
 -- serve sixteen places by value and a lent list: both are a list of entries here.
 pub mod Calls
 pub mod Entries
+pub mod Pass
 pub mod Places
 use Prim.Native.Nat.{ℕ, _+_, _-_}
 use mathlib.Core.Bool.{Bool, false, not, _&&_, _||_, cond}
@@ -58,9 +59,12 @@ padded count xs = xs ++ replicate (count - length xs) empty
 unfoldable pub written : List Entry → ℕ → List Entry → List Entry
 written list count xs = padded count xs ++ drop (length (padded count xs)) list
 
+abbrev pub swept : List Entry → ℕ → Swept
+swept places count = record { places = places; count = count }
+
 -- the places and their count, where the entries become `xs`
 abbrev pub becomes : List Entry → ℕ → List Entry → Swept
-becomes list count xs = record { places = written list count xs; count = length xs }
+becomes list count xs = swept (written list count xs) (length xs)
 
 -- ---- the two calls, and steps 5 and 8
 
@@ -98,6 +102,11 @@ appending list count e = becomes list count (entries list count ++ (e ∷ []))
 -- step 8
 abbrev pub sweeping : List Entry → ℕ → Purge → Swept
 sweeping list count p = becomes list count (kept p (entries list count))
+
+-- Step 8 on its way, `i` entries read. Document 02, change 4: "after each entry read the list is the kept ones of those read, in
+-- their order, then places of 0, then those not yet read, unchanged".
+unfoldable pub afterReading : Purge → List Entry → ℕ → Swept
+afterReading p list i = let xs = kept p (entries list i) in swept (padded i xs ++ drop i list) (length xs)
 
 -- "both give 10 for a list or count that does not fit, and remember then 18 or 19 as in step 5"
 unfoldable pub remembered : List Entry → ℕ → Entry → CacheOutcome

@@ -1,8 +1,8 @@
-// The replay cache by value: its sixteen places and the count, side by side. `remember` and `forget` are the whole calls;
-// `refusal`, `append` and `sweep` are their parts, which steps 5 and 8 have in common with them.
+// The replay cache by value: its sixteen places and the count, side by side. `remember` is a whole call; `refusal` and `append`
+// are its parts, which step 5 has in common with it, and `survives` is the test of step 8.
 ghost use mathlib.Core.Path.{_≡_};
 ghost use Prim.Native.Nat.{_<_, _≤_};
-ghost use Rattle.replay.specs.Cache.{same, present, stays, entries, cacheRefusal, appending, sweeping, refused, cacheOutcome, remembered, forgotten};
+ghost use Rattle.replay.specs.Cache.{same, present, stays, entries, cacheRefusal, appending, refused, cacheOutcome, remembered};
 use crate::entry::Answer;
 use crate::entry::EMPTY;
 use crate::entry::Entry;
@@ -67,7 +67,7 @@ pub fn refusal(places: [Entry; PLACES], count: usize, e: Entry) -> u8
 }
 
 // Whether `x` is left when `p` is done: it is another principal's, or its life is not over.
-fn survives(x: Entry, p: Purge) -> bool
+pub fn survives(x: Entry, p: Purge) -> bool
     ensures { λ r. ⌜ r ≡ stays p x ⌝ }
 {
     x.b != p.b || (p.clock as u64) < (x.ta as u64) + (p.la as u64)
@@ -83,29 +83,6 @@ pub fn append(places: [Entry; PLACES], count: usize, e: Entry) -> Swept
     Swept {
         places: next,
         count: count + 1,
-    }
-}
-
-// One pass: a place that is read becomes empty, and an entry that survives moves to the front.
-pub fn sweep(places: [Entry; PLACES], count: usize, p: Purge) -> Swept
-    requires { ⌜ count ≤ 16 ⌝ }
-    ensures { λ r. ⌜ r ≡ sweeping places count p ⌝ }
-{
-    let mut next = places;
-    let mut left = 0;
-    let mut i = 0;
-    while i < count {
-        let x = next[i];
-        next[i] = EMPTY;
-        if survives(x, p) {
-            next[left] = x;
-            left += 1;
-        }
-        i += 1;
-    }
-    Swept {
-        places: next,
-        count: left,
     }
 }
 
@@ -134,20 +111,5 @@ pub fn remember(places: [Entry; PLACES], count: usize, e: Entry) -> After
     After {
         places: next,
         answer: Answer::Count(appended.count),
-    }
-}
-
-// Forgets the entries of a principal whose life is over. Refused: 10.
-pub fn forget(places: [Entry; PLACES], count: usize, p: Purge) -> After
-    ensures { λ r. ⌜ cacheOutcome (r .answer) (r .places) ≡ forgotten places count p ⌝ }
-{
-    if PLACES < count {
-        return refuse(places, REFUSE_TABLES);
-    }
-    let swept = sweep(places, count, p);
-    let next = swept.places;
-    After {
-        places: next,
-        answer: Answer::Count(swept.count),
     }
 }

@@ -56,11 +56,12 @@ use Rattle.calls.proofs.call as lent
 use Rattle.calls.proofs.call.Symbol as lent-def
 use Rattle.calls.proofs.call.Symbol.{name as #lent}
 use Rattle.calls.proofs.call.Met as lent-thm
+use Rattle.lent_cache.proofs.Returned.{field-is}
 use Rattle.lent_cache.proofs.Rows.{R, S-vals, S-val}
 use Rattle.call_cases.specs.declared.lent.Made.{Made}
 use Rattle.call_cases.proofs.lent.Made as 𝓕
 use Rattle.call_cases.proofs.lent.Made.Laws as 𝓕′
-use Rattle.call_cases.proofs.Lending.{Seventeen, T-tells, T-typed, seventeen, part-size, field-is, part, lends, comes-back}
+use Rattle.call_cases.proofs.Lending.{Seventeen, T-tells, T-typed, seventeen, part-size, part, lends, comes-back}
 use Rattle.call_cases.proofs.lent.lent_call as f
 use Rattle.call_cases.proofs.lent.lent_call.Key.{name as #lent-call}
 use Rattle.call_cases.proofs.lent.lent_call.Statement as stated
@@ -76,7 +77,7 @@ made-val = 𝓕′.lowered
 
 made-is : (xs : List Entry) (x : Called) (vs : List Val) → Is Seventeen xs (S-vals xs) → Is 𝓓.the-row x vs → Is 𝓕.the-row (made xs x) (made-val (made xs x) ∷ [])
 made-is xs x vs p q =
-    let w = SL.owes 𝓕.the-type 𝓕′.the-laws (made xs x) (field-is xs _ p, (subst (Is 𝓓.the-row x) (SL.tells 𝓓.the-type 𝓓′.the-laws x _ q) q, tt)) in
+    let w = SL.owes 𝓕.the-type 𝓕′.the-laws (made xs x) (field-is 17 xs _ p, (subst (Is 𝓓.the-row x) (SL.tells 𝓓.the-type 𝓓′.the-laws x _ q) q, tt)) in
     subst (Is 𝓕.the-row (made xs x)) (𝓕′.lowers .val-is (made xs x) _ w) w
 
 -- the tables are given to the call for good, and nothing is kept of the other parameters
