@@ -25,7 +25,7 @@ const fn written(name: &'static str, files: fn(usize) -> Vec<Vec<u8>>) -> Row {
     Row { name, work: Work::Write, files }
 }
 
-pub const ROWS: [Row; 8] = [
+pub const ROWS: [Row; 9] = [
     listed("a long honest walk", |eighths| vec![walks::honest(eighths)]),
     listed("terms only", |eighths| vec![walks::terms_only(eighths)]),
     listed("the first of 512 terms again", |eighths| vec![walks::first_term(eighths)]),
@@ -33,6 +33,7 @@ pub const ROWS: [Row; 8] = [
         vec![walks::deliveries(eighths)]
     }),
     listed("deep shared terms", |eighths| vec![walks::deep(eighths)]),
+    listed("32 purges a tick on a full cache", |eighths| vec![walks::purges(eighths)]),
     listed("8,000 damaged files", walks::damaged),
     listed("10,000 small files", walks::small),
     written("the five long walks written out", walks::long),

@@ -1,13 +1,13 @@
 //! The walk files of the rows. A long file starts with records that fill the
-//! tables; those after them leave the tables as they are, so that twice as many
-//! are twice the work.
+//! tables; those after them leave the tables as they are, but for the clock of the
+//! purges, so that twice as many are twice the work.
 
 use generator::random::Random;
 use generator::walk::Walk;
 use generator::{damage, scenes};
 use reference::file::{Header, Record, StepRecord, TermRecord, MAX_FILE_BYTES};
-use reference::marks::mark;
-use reference::realm::MAX_RUNS;
+use reference::marks::{mark, MAX_PRINCIPALS};
+use reference::realm::{MAX_ENTRIES, MAX_RUNS};
 use reference::terms::MAX_TERMS;
 use reference::writing::record_bytes;
 
@@ -180,6 +180,27 @@ pub fn deep(eighths: usize) -> Vec<u8> {
     ];
     let asks = |message| Record::Step(StepRecord { step: 10, message, ..STEP });
     extended(walk, eighths, cycle(asked.map(asks).to_vec()))
+}
+
+/// 16 exchanges with eight responders; their entries outlive the file. Then ticks,
+/// and on each a purge for every principal.
+pub fn purges(eighths: usize) -> Vec<u8> {
+    let (mark, principals) = (mark(b"HW"), MAX_PRINCIPALS);
+    let header = Header { mark, principals, authenticator_life: 1_000, ..GOOD };
+    let mut walk = walk(header);
+    for number in 0..MAX_ENTRIES as u8 {
+        Exchange::prepare(&mut walk, 1 + number, 24 + number % 8).complete(&mut walk);
+        tick(&mut walk);
+    }
+    let clock = walk.realm.clock;
+    extended(walk, eighths, move |number| {
+        let a_tick = 1 + usize::from(principals);
+        let (ticks, place) = (number / a_tick, number % a_tick);
+        Record::Step(match place {
+            0 => StepRecord { step: 7, time: clock + 1 + ticks as u32, ..STEP },
+            _ => StepRecord { step: 8, b: place as u8 - 1, ..STEP },
+        })
+    })
 }
 
 pub const LONG: [fn(usize) -> Vec<u8>; 5] = [honest, terms_only, first_term, deliveries, deep];

@@ -9,7 +9,7 @@ use bench::rows::ROWS;
 use bench::sides::compare;
 use bench::walks::{self, LONG};
 use bench::written::Walk;
-use reference::file::{read_header, read_record, MAX_FILE_BYTES};
+use reference::file::{read_header, read_record, read_records, Record, MAX_FILE_BYTES};
 use reference::listing;
 use reference::realm::Realm;
 use reference::terms::Message;
@@ -59,7 +59,7 @@ fn files_are_the_same_each_time() {
 
 #[test]
 fn long_files_grow_by_their_records() {
-    for make in LONG {
+    for make in LONG.into_iter().chain([walks::purges as fn(usize) -> Vec<u8>]) {
         let filling = lines(&make(0)).len();
         let repeated = lines(&make(1)).len() - filling;
         assert!(repeated > 500);
@@ -193,6 +193,35 @@ fn deep_terms_are_deep_and_shared() {
     let half = repeated.len() / 2;
     assert!(count(&repeated, "ST ok - +0").abs_diff(half) <= 1);
     assert!(count(&repeated, "ST refused 15").abs_diff(half) <= 1);
+}
+
+#[test]
+fn purges_keep_a_full_cache() {
+    let (filled, after) = (realm(&walks::purges(0)), realm(&walks::purges(8)));
+    assert_eq!((filled.settings.principals, filled.cache.len()), (32, 16));
+    let responders: BTreeSet<u8> = filled.cache.iter().map(|entry| entry.responder).collect();
+    assert_eq!(responders.len(), 8);
+    assert_eq!(after.cache, filled.cache);
+    assert_eq!((after.terms.count(), after.runs), (filled.terms.count(), filled.runs));
+    assert!(answers(&walks::purges(8)).iter().all(|answer| !answer.contains("refused")));
+}
+
+/// On each tick every principal's entries are purged once.
+#[test]
+fn there_are_32_purges_a_tick() {
+    let records = |file: &[u8]| read_records(read_header(file).unwrap().1).0;
+    let filling = records(&walks::purges(0)).len();
+    let repeated = records(&walks::purges(8)).split_off(filling);
+    let mut clock = realm(&walks::purges(0)).clock;
+    for tick in repeated.chunks(1 + 32) {
+        clock += 1;
+        for (number, record) in tick.iter().enumerate() {
+            let Record::Step(step) = record else { panic!("{record:?}") };
+            let expected = if number == 0 { (7, clock, 0) } else { (8, 0, number - 1) };
+            assert_eq!((step.step, step.time, usize::from(step.b)), expected);
+        }
+    }
+    assert!(repeated.len() > 150 * 33, "{}", repeated.len());
 }
 
 #[test]
