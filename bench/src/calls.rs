@@ -98,12 +98,15 @@ pub struct Call {
     pub name: &'static str,
     pub both: Both,
     pub record: Record,
-    /// Sweeps that a test by the definition takes.
+    /// Sweeps that a test by the definition takes; none where no term is tested.
     pub sweeps: usize,
 }
 
 /// How many calls there are.
-pub const CALLS: usize = 4;
+pub const CALLS: usize = 5;
+
+/// The number of the purge.
+pub const PURGE: usize = 3;
 
 /// A call on so many terms, 64 runs and 16 entries. In the first each term is on
 /// the wire, so that one look at each is all there is to do; the last is always on
@@ -113,9 +116,10 @@ pub fn make(number: usize, terms: usize) -> Call {
         0 => ("step 10, every term on the wire", all_known(terms), query(0)),
         1 => chained("step 10, a chain of keys in the best order", terms, Order::Best),
         2 => chained("step 10, a chain of keys in the worst order", terms, Order::Worst),
+        PURGE => ("step 8, every entry stays", all_known(terms), purge(2)),
         _ => delivery(),
     };
-    let sweeps = sweeps(&both.realm);
+    let sweeps = if number == PURGE { 0 } else { sweeps(&both.realm) };
     Call { name, both, record, sweeps }
 }
 
@@ -188,6 +192,10 @@ fn call_of_the_reference(realm: &mut Realm, record: &Record) {
 
 pub fn query(message: u16) -> Record {
     Record::Step(StepRecord { step: 10, message, ..STEP })
+}
+
+fn purge(b: u8) -> Record {
+    Record::Step(StepRecord { step: 8, b, ..STEP })
 }
 
 /// The tables that the row of deliveries fills, and its first delivery.

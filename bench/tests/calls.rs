@@ -1,7 +1,9 @@
 //! The tables of the public calls, and what the calls do to them.
 
-use bench::calls::{chain, make, query, sweeps, Order, CALLS, EACH, LINKS};
+use bench::calls::{chain, make, query, sweeps, Order, CALLS, EACH, LINKS, PURGE};
+use bench::exchange::STEP;
 use lent::Answer;
+use reference::file::{Record, StepRecord};
 
 /// Ok, with no run and no term added.
 const OK: Answer = Answer::Ok { run: None, added: 0 };
@@ -25,9 +27,9 @@ fn calls_leave_full_tables_as_they_are() {
 
 #[test]
 fn sweeps_are_counted() {
-    let of = |terms| [0, 1, 2].map(|number| make(number, terms).sweeps);
-    assert_eq!(of(512), [1, 2, LINKS + 2]);
-    assert_eq!(of(64), [1, 2, 32]);
+    let of = |terms| [0, 1, 2, PURGE].map(|number| make(number, terms).sweeps);
+    assert_eq!(of(512), [1, 2, LINKS + 2, 0]);
+    assert_eq!(of(64), [1, 2, 32, 0]);
 }
 
 /// Without its first link nothing of a chain is opened.
@@ -49,9 +51,25 @@ fn a_chain_hangs_on_its_first_link() {
     }
 }
 
+/// All entries are of the principal whose purge it is. One tick before the end of
+/// their lives they stay, and at the end they go.
+#[test]
+fn a_purge_finds_only_entries_that_stay() {
+    let mut call = make(PURGE, 512);
+    let cache = call.both.tables.cache.clone();
+    assert!(cache.iter().all(|entry| entry.b == 2));
+    for (clock, left) in [(0, 16), (8, 16), (9, 0)] {
+        let ticks = Record::Step(StepRecord { step: 7, time: clock, ..STEP });
+        assert_eq!(call.both.put(ticks), OK);
+        assert_eq!(call.both.put(call.record), OK);
+        assert_eq!(call.both.tables.realm.entries, left);
+        assert_eq!(call.both.tables.cache == cache, left == 16);
+    }
+}
+
 #[test]
 fn the_delivery_is_refused_on_full_tables() {
-    let mut call = make(3, 512);
+    let mut call = make(CALLS - 1, 512);
     let realm = call.both.tables.realm;
     assert_eq!((realm.terms, realm.runs, realm.entries), (512, 64, 16));
     assert_eq!(call.sweeps, 3);
