@@ -3,7 +3,7 @@
 use reference::marks::FORMATS;
 
 use crate::cells::{most_added, refusals_of_kind};
-use crate::{forms, header_cells};
+use crate::{forms, header_cells, purge_cells};
 
 /// Cells that say in which way a cell above was met: each condition of a
 /// refusal while no other condition of it holds, the limits hit exactly, and
@@ -17,6 +17,7 @@ pub fn edge_cells() -> Vec<String> {
     cells.extend(input_edges());
     cells.extend(stage_and_form_edges());
     cells.extend(order_edges());
+    cells.extend(purge_cells::edges());
     cells.extend(OTHER_EDGES.iter().map(|cell| cell.to_string()));
     cells
 }

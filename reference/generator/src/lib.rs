@@ -17,6 +17,8 @@ pub mod headers;
 pub mod known;
 pub mod limits;
 pub mod observer;
+pub mod purge_cells;
+pub mod purges;
 pub mod random;
 pub mod scenes;
 pub mod vectors;

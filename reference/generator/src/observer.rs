@@ -12,6 +12,7 @@ use reference::terms::{Message, MAX_TERMS};
 use crate::cells::most_added;
 use crate::conditions::{facts, Facts};
 use crate::forms;
+use crate::purge_cells::{left, Purges};
 
 const DEEP: usize = 200;
 
@@ -23,6 +24,7 @@ pub struct Observer {
     refused: HashMap<(u8, u16), u8>,
     /// The terms that steps added.
     added_by_steps: HashSet<u16>,
+    purges: Purges,
 }
 
 impl Observer {
@@ -33,6 +35,7 @@ impl Observer {
             depths: HashMap::new(),
             refused: HashMap::new(),
             added_by_steps: HashSet::new(),
+            purges: Purges::default(),
         }
     }
 
@@ -75,6 +78,9 @@ impl Observer {
             let added = facts.new_terms.unwrap_or(0);
             assert_eq!(added_terms(answer), added, "{record:?}");
             assert_eq!(self.realm.terms.count(), count + added, "{record:?}");
+        }
+        if let (Record::Step(StepRecord { step: 8, b, .. }), Ok(_)) = (record, answer) {
+            assert_eq!(self.realm.cache, left(&self.realm, &before.4, *b), "{record:?}");
         }
         match record {
             Record::Term(term) => self.term(term, &facts, answer),
@@ -209,6 +215,7 @@ impl Observer {
     /// Cells that are read from the tables as the step finds them.
     fn before_step(&mut self, record: &StepRecord, facts: &Facts) {
         let answer = facts.applies.first().copied();
+        self.cells.extend(self.purges.cells(&self.realm, record, facts));
         match record.step {
             3..=6 | 10 => {
                 self.message_cells(record, facts, answer);

@@ -7,7 +7,7 @@ use reference::terms::Shape;
 use crate::headers::any_header;
 use crate::random::Random;
 use crate::walk::Walk;
-use crate::{actions, damage, extremes, known, limits};
+use crate::{actions, damage, extremes, known, limits, purges};
 
 /// A file of any kind. Files on full tables and of full length are long, so
 /// they are made less often.
@@ -24,7 +24,8 @@ pub fn any_damaged_file(random: &mut Random) -> Vec<u8> {
 
 fn file_of(random: &mut Random, kind: usize) -> Vec<u8> {
     match kind {
-        0..=59 => mixed(random).bytes,
+        0..=54 => mixed(random).bytes,
+        55..=59 => purges::each_tick(random).bytes,
         60..=64 => known::known_parts(random).bytes,
         65..=84 => exchanges(random).bytes,
         85..=104 => ticks(random).bytes,
@@ -184,10 +185,26 @@ pub fn collisions(random: &mut Random) -> Walk {
 /// Step 2 and step 5 with a ticket of the intruder's making; gives the latter.
 pub fn made_delivery(walk: &mut Walk, highest_ta: u32) -> Option<StepRecord> {
     let (a, b) = (walk.random.pick(&[1, 4]), walk.random.pick(&[2, 3]));
-    let key = Shape::SessionKey(walk.random.pick(&[64, 65]));
+    let key = walk.random.pick(&[64, 65]);
     let clock = walk.realm.clock;
     let ts = clock.saturating_sub(walk.random.between(0, 1));
     let ta = clock.saturating_sub(1).saturating_add(walk.random.between(0, highest_ta));
+    make_delivery(walk, Made { a, b, key, ts, ta })
+}
+
+/// What the intruder puts into a delivery.
+pub struct Made {
+    pub a: u8,
+    pub b: u8,
+    pub key: u8,
+    pub ts: u32,
+    pub ta: u32,
+}
+
+/// The same with values of our choice.
+pub fn make_delivery(walk: &mut Walk, made: Made) -> Option<StepRecord> {
+    let Made { a, b, key, ts, ta } = made;
+    let key = Shape::SessionKey(key);
     let terms = &mut walk.realm.terms;
     let ticket = terms.list(&[key.clone(), Shape::Principal(a), Shape::Time(ts)]);
     let authenticator = terms.list(&[Shape::Principal(a), Shape::Time(ta)]);
