@@ -1,11 +1,13 @@
 //! The cases of `call_cases`: document 01's cases F and A to D as walks, every
 //! refusal of a call, 10 in each of its causes, every table filled to its last
-//! place, terms that are known before, and the two calls on the replay cache
-//! alone. Places past the counts hold what is no term, run or entry.
+//! place, terms that are known before, the two calls on the replay cache alone,
+//! and purges that forget some entries of a list, in patterns. Places past the
+//! counts hold what is no term, run or entry, or an entry that must not be read.
 
 mod broken;
 mod full;
 mod known;
+mod patterns;
 mod refused;
 mod thin;
 mod walks;
@@ -262,5 +264,8 @@ pub fn script() -> Script<World> {
     thin::others_stay(&mut script);
     thin::behind_the_count(&mut script);
     thin::misfits(&mut script);
+    patterns::each(&mut script);
+    patterns::in_turn(&mut script);
+    patterns::found_again(&mut script);
     script
 }

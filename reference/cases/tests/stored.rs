@@ -74,6 +74,19 @@ fn every_number_of_terms_is_added() {
     }
 }
 
+/// The same lists by either way of forgetting, with the same left.
+#[test]
+fn step_8_forgets_what_forget_does() {
+    let output = stored("call_cases", "stdout");
+    let after = |how: &str| -> Vec<String> {
+        let lines = output.lines().filter_map(|line| line.strip_prefix(how)?.split_once(": ok"));
+        let lists = lines.filter(|(list, _)| list.ends_with(" forgotten"));
+        lists.map(|(list, left)| list.to_string() + left.trim_start_matches(" - +0")).collect()
+    };
+    assert_eq!(after("step 8, ").len(), 11);
+    assert_eq!(after("step 8, "), after("forget alone, "));
+}
+
 #[test]
 fn a_refused_call_changes_nothing() {
     for name in ["call_cases", "term_tables"] {
