@@ -96,6 +96,31 @@ fn forgotten_entries_leave_zeros() {
     assert_eq!(tables.cache[1].ta, 99);
 }
 
+/// Those that stay move to the front in their order, behind them stand as many
+/// zeros as entries went, and places past the count keep their values.
+#[test]
+fn entries_that_stay_keep_their_order() {
+    let place = |b: u16, k: u16, ta: u32| Place { b, k, ta };
+    let (zero, no_entry) = (Place::default(), place(99, 99, 99));
+    let mut list = [no_entry; MAX_ENTRIES];
+    list[..7].copy_from_slice(&[
+        place(2, 1, 0),
+        place(3, 2, 0),
+        place(2, 3, 1),
+        place(2, 4, 0),
+        place(2, 5, 5),
+        place(1, 6, 0),
+        place(2, 7, 0),
+    ]);
+    assert_eq!(forget(&mut list, 7, 2, 10, 10), Ok(4));
+    let left = [place(3, 2, 0), place(2, 3, 1), place(2, 5, 5), place(1, 6, 0)];
+    assert_eq!(list[..4], left);
+    assert_eq!(list[4..7], [zero; 3]);
+    assert_eq!(list[7..], [no_entry; 9]);
+    assert_eq!(forget(&mut list, 4, 3, 10, 10), Ok(3));
+    assert_eq!(list[..7], [left[1], left[2], left[3], zero, zero, zero, zero]);
+}
+
 #[test]
 fn the_steps_do_what_the_two_calls_do() {
     let (settings, records) = walk(examples().join("case-f.walk"));
