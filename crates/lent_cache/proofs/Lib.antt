@@ -1,10 +1,10 @@
 pub mod Calls
 pub mod Copying
+pub mod Halfway
 pub mod Lending
 pub mod Loading
 pub mod Passing
 pub mod Purges
-pub mod Reading
 pub mod Returned
 pub mod Rows
 pub mod Tests

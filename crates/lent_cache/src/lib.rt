@@ -2,6 +2,7 @@
 // the places are stored back; to forget, one pass goes over the list itself. Each function with a `&[Entry]` or a `&mut [Entry]`
 // in it is proved by a walk of its MIR, by hand.
 pub mod pass; // forgetting in one pass
+
 ghost use mathlib.Core.Path.{_≡_};
 ghost use lib.ListN.{length};
 ghost use Rattle.replay.specs.Cache.{cacheOutcome, remembered, forgotten};

@@ -4,7 +4,7 @@ ghost use mathlib.Core.List.{List};
 ghost use Prim.Native.Nat.{_+_, _<_, _≤_};
 ghost use lib.ListN.{length};
 ghost use Rattle.replay.specs.declared.entry.Entry.{Entry};
-ghost use Rattle.replay.specs.Cache.{swept, afterReading, sweeping};
+ghost use Rattle.replay.specs.Cache.{swept, afterRead, sweeping};
 use replay::cache::Swept;
 use replay::cache::survives;
 use replay::entry::EMPTY;
@@ -15,8 +15,8 @@ use replay::entry::Purge;
 // One turn of the pass: `i` entries are read and `left` of them are kept; it reads the next, and gives the number of those kept.
 fn read_entry(list: &mut [Entry], left: usize, i: usize, p: Purge) -> usize
     ghost { List Entry }
-    requires { λ before. ⌜ (i < length before) × (swept (now list) left ≡ afterReading p before i) ⌝ }
-    ensures { λ before r. ⌜ swept (now (list .exit)) r ≡ afterReading p before (i + 1) ⌝ }
+    requires { λ before. ⌜ (i < length before) × (swept (now list) left ≡ afterRead p before i) ⌝ }
+    ensures { λ before r. ⌜ swept (now (list .exit)) r ≡ afterRead p before (i + 1) ⌝ }
 {
     let x = list[i];
     list[i] = EMPTY;

@@ -105,8 +105,8 @@ sweeping list count p = becomes list count (kept p (entries list count))
 
 -- Step 8 on its way, `i` entries read. Document 02, change 4: "after each entry read the list is the kept ones of those read, in
 -- their order, then places of 0, then those not yet read, unchanged".
-unfoldable pub afterReading : Purge → List Entry → ℕ → Swept
-afterReading p list i = let xs = kept p (entries list i) in swept (padded i xs ++ drop i list) (length xs)
+unfoldable pub afterRead : Purge → List Entry → ℕ → Swept
+afterRead p list i = let xs = kept p (entries list i) in swept (padded i xs ++ drop i list) (length xs)
 
 -- "both give 10 for a list or count that does not fit, and remember then 18 or 19 as in step 5"
 unfoldable pub remembered : List Entry → ℕ → Entry → CacheOutcome

@@ -1,6 +1,6 @@
 -- What the replay cache promises. The contracts of `src/` say that each call comes to `remembered` or `forgotten`; here is what
 -- that means for the entries (one is appended, or they are filtered) and for every place of the list. Assumes nothing.
-use mathlib.Core.Path.{_≡_, refl, sym, _∙_}
+use mathlib.Core.Path.{_≡_, refl, sym, _∙_, ap}
 use mathlib.Core.Logic.{_↔_}
 use Prim.Native.Nat.{ℕ, _+_, _<_, _≤_}
 use native.Mathlib.Omega.{arith}
@@ -14,10 +14,11 @@ use Rattle.replay.specs.declared.entry.Entry.{Entry}
 use Rattle.replay.specs.declared.entry.Purge.{Purge}
 use Rattle.replay.specs.declared.entry.Answer.{Answer}
 use Rattle.replay.specs.declared.entry.Answer.the-variants.{Count, Refused}
-use Rattle.replay.specs.Cache.{empty, present, stays, kept, entries, CacheOutcome, refused, accepted, numberOf, done, cacheRefusal, appending, fits, remembered, forgotten}
+use Rattle.replay.specs.Cache.{empty, present, stays, kept, entries, CacheOutcome, refused, accepted, numberOf, done, cacheRefusal, appending, afterRead, fits, remembered, forgotten}
 use Rattle.replay.specs.Cache.Entries.{present-of, of-present, filter-length, filter-of, of-filter, goes, goes-if}
 use Rattle.replay.specs.Cache.Places.{append-length, held-count, held-entries, held-length, held-freed, held-past}
-use Rattle.replay.specs.Cache.Calls.{fits-is, fits-list, fits-count, remembered-back, remembered-kept, forgotten-back, forgotten-kept}
+use Rattle.replay.specs.Cache.Calls.{fits-is, fits-list, fits-count, remembered-back, remembered-kept, forgotten-ok, forgotten-back, forgotten-kept}
+use Rattle.replay.specs.Cache.Pass.{at-end}
 
 -- An accepted `remember`: the entry was absent and a place was left; the entry is appended, and the places behind it keep their values.
 pub record Remembers (list : List Entry) (count : ℕ) (e : Entry) (n : ℕ) (after : List Entry) : Type 0 where
@@ -98,6 +99,25 @@ module _ (list : List Entry) (count : ℕ) (p : Purge) (n : ℕ) (after : List E
         behind = held-past list count xs n after (r .1) count (omega arith) less;
         fitting = fits-is after n (held-length list count xs n after (r .1) (omega arith) (omega arith) ∙ size) (omega arith);
       }
+
+-- Document 02, change 4: "after each entry read the list is the kept ones of those read, in their order, then places of 0, then those
+-- not yet read, unchanged. At the end the entries kept, their order, the count and the freed places are those of document 01." The
+-- contract of `lent_cache::pass::read_entry` says that one turn of the pass goes from `afterRead` at i to that at i + 1.
+pub record OnePass (list : List Entry) (count : ℕ) (p : Purge) : Type 0 where
+  pub each : (i : ℕ) → i ≤ count → Forgets list i p (afterRead p list i .count) (afterRead p list i .places)
+  pub ended : forgotten list count p ≡ done (afterRead p list count)
+
+pub in-one-pass : (list : List Entry) (count : ℕ) (p : Purge) → fits list count ≡ true → OnePass list count p
+in-one-pass list count p f = record { each = λ i l. forget-accepted list i p _ _ (stands i (omega (arith, below))); ended = stands count below }
+  where
+    size : length list ≡ 16
+    size = fits-list list count f
+
+    below : count ≤ 16
+    below = fits-count list count f
+
+    stands : (i : ℕ) → i ≤ 16 → forgotten list i p ≡ done (afterRead p list i)
+    stands i l = forgotten-ok list i p (fits-is list i size l) ∙ sym (ap done (at-end p list i (omega (arith, size))))
 
 -- present are exactly the members
 pub present-exactly : (xs : List Entry) (e : Entry) → (present xs e ≡ true) ↔ List·Memᴰ e xs

@@ -15,7 +15,7 @@ use base.Logic.{SProp, ent, emp, id⊢, exE, snd∗}
 use base.Fml.{Lft, GName, Share, ftrue, fat, flft}
 use prog.Memory.{Memory}
 use prog.Routine.{Routine}
-use prog.Wp.{Heap, Calls, Loops, WpFn, Tables}
+use prog.Wp.{Heap, Calls, Loops, WpFn}
 use ghost.Atoms.{Atoms, sem}
 use contract.Monad.{Fun, fact}
 use contract.Running.{givenOf, tables, tablesOf}
@@ -28,7 +28,7 @@ use denote.Plain.{uint-makes}
 use denote.Builtin.{usize}
 use denote.Slice.{sliceVal, Room}
 use denote.Steps.{only, owned, peeks, heard, nothing}
-use denote.Triple.Spec.{Meets, tripleOf}
+use denote.Triple.Spec.{tripleOf}
 use denote.Triple.Statement.{Contract, Triple}
 use denote.Triple.Call.{calls-at}
 use denote.Triple.Clauses.{ensured, lasts}
@@ -46,7 +46,7 @@ use Rattle.replay.proofs.cache.remember.Symbol.{name as #core}
 use Rattle.replay.proofs.cache.remember.Met as core-thm
 use Rattle.lent_cache.proofs.Rows.{R, R-val, R-vals, R-makes, R-typed, Sixteen, S-makes, S-typed}
 use Rattle.lent_cache.proofs.Tests.{guards, ne-holds, ne-fails}
-use Rattle.lent_cache.proofs.Returned.{answer-val, answer-typed, after-typed, refused-is, after-val, after-answer, after-places}
+use Rattle.lent_cache.proofs.Returned.{answer-typed, after-typed, refused-is, after-val, after-answer, after-places}
 use Rattle.lent_cache.proofs.Loading.{Load, Store, loads, stores}
 use Rattle.lent_cache.proofs.Calls.{remembering, Parameters, Post, exits, exits-10, meets}
 use Rattle.lent_cache.proofs.load.Symbol as load-def

@@ -2,7 +2,7 @@
 -- In between there are two rows of entries, the slice's and the local array's; each turn copies one entry from the array to the
 -- slice (`Copying.antt`).
 -- Assumes nothing.
-use mathlib.Core.Path.{_≡_, refl, sym, _∙_, ap, subst}
+use mathlib.Core.Path.{_≡_, refl, sym, _∙_}
 use Prim.Native.Nat.{ℕ, _*_, _<_, _^_}
 use mathlib.Core.List.{List, [], _∷_}
 use native.Mathlib.Omega.{arith}
@@ -26,11 +26,10 @@ use types.Part.{whole, sub, look-in}
 use types.Run.{look, look-raw, init, store, store-raw, forget, stop, hop, fld, from, load, lit, unit-lit, addr, of-opd, bin, assigns, assigns-last, first, blocks, returns, enter, alloc1, alloc0, params1, pass1, pass0, free1, free0, exec, Below, again, loops}
 use sound.WpLaws.{WpFn-mono}
 use denote.RattleType.{owns}
-use denote.Shadow.{pureI}
 use denote.Laws.{Is}
 use denote.Memory.{pointee}
 use denote.Ref.{RefT}
-use denote.Slice.{sliceTy, sliceVal, MutSlice, Room, heres, codedHoleys, at-slice, slice-vals, mut-slice-tells}
+use denote.Slice.{sliceTy, sliceVal, MutSlice, Room, heres, codedHoleys, slice-vals, mut-slice-tells}
 use denote.Lend.{Held}
 use denote.Index.{row, place-is, elem-back, opens-slice, closes-slice}
 use denote.Signature.{plain}
@@ -43,6 +42,7 @@ use denote.Exit.{yes}
 use Rattle.replay.specs.declared.entry.Entry.{Entry}
 use Rattle.replay.specs.Cache.{empty}
 use Rattle.replay.proofs.entry.Entry.Laws as 𝓔′
+use Rattle.lent_cache.proofs.Lending.{lent-list, slice-whole}
 use Rattle.lent_cache.proofs.Rows.{R, R-vals, R-typed, Sixteen, S-vals, S-val, S-mir, S-tells, S-makes, S-typed, array-in, array-out, entry-out, entry-put}
 use Rattle.lent_cache.proofs.Tests.{tests}
 use Rattle.lent_cache.proofs.Copying.{Copying, Nearer, Nearer-wf, start, more, all-copied}
@@ -62,15 +62,11 @@ abbrev slice : Ty
 slice = sliceTy (tyRef (named 0) mut (pointee (R .written)))
 
 module _ {M : Type 1} (𝓤 : URA M) (H : Heap 𝓤) (A : Atoms 𝓤) (W : Given 𝓤 H A) (mem : Memory → SProp 𝓤) (run : Routine → Fun 𝓤) (κ : Lft) (q : Share) (b o : ℕ) (γ : GName) (ys all : List Entry) (room : Room R (length ys)) (are : Is Sixteen all (S-vals all)) (sixteen : length ys ≡ 16) where
-  -- the borrow at the list l
-  abbrev x : List Entry → RefT (List Entry)
-  x l = record { ptr = (b, o); name = γ; now = l }
-
   abbrev Arg : Type 0
   Arg = RefT (List Entry) × (List Entry × Unit {0})
 
   abbrev a : Arg
-  a = (x ys, (all, tt))
+  a = (lent-list b o γ ys, (all, tt))
 
   abbrev s : Val
   s = sliceVal (b, o) (length ys)
@@ -89,9 +85,7 @@ module _ {M : Type 1} (𝓤 : URA M) (H : Heap 𝓤) (A : Atoms 𝓤) (W : Given
       qed W (‵ (fobs γ (codedHoleys R .code (heres R zs))) ∷ ‵ (fbor κ (Held R (length zs) b o γ)) ∷ ‵ (flft κ q) ∷ []) ∵
       suffices ! _ (ends-at 𝓤 H A f.ended stayed (f.clauses 𝓤 H A mem run) W (((κ, tt), (q, tt), tt, a, at), tt) vunit tt (zs, (tt, tt)) (l, (tt, tt))) $ says ! e $
       nothing ! $ move ! (3 ∷ 0 ∷ []) $ join ! $ frame ! $
-      -- [obs; the borrow]: with the fact on the MIR value it is what the slice owns
-      fjoin ! $ pureI ! (at-slice R (x zs) (s ∷ [])) (tt, (tt, tt)) (ap (λ (m : ℕ). sliceVal (b, o) m ∷ []) (sym l), subst (Room R) (sym l) room) $ fjoin ! $
-      nothing ! $ owned ! Sixteen (Is Sixteen) (S-makes 𝓤 H A W) all _ are $ fjoin ! $ move ! (1 ∷ 0 ∷ []) $ fjoin ! $
+      slice-whole ! ys zs κ b o γ l room $ nothing ! $ owned ! Sixteen (Is Sixteen) (S-makes 𝓤 H A W) all _ are $ fjoin ! $ move ! (1 ∷ 0 ∷ []) $ fjoin ! $
       feqI ! (List Val) (vunit ∷ []) (vunit ∷ []) refl $ move ! (1 ∷ 0 ∷ []) $ done !
 
   module _ (𝓣 : Tables 𝓤 H) (l₀ l₁ l₂ l₃ l₄ l₅ l₆ l₇ l₈ l₉ l₁₀ l₁₁ : ℕ) where

@@ -1,6 +1,6 @@
 -- `lent_cache::pass::pass_over` meets its contract: a walk of its MIR, by hand. The borrow is opened once, before the loop, and
 -- closed after it; in each turn the list is lent to `read_entry` and comes back (`Lending.antt`). All that is known of `read_entry`
--- is that it meets its contract. Where the loop stands is in `Reading.antt`.
+-- is that it meets its contract. Where the loop stands is in `Halfway.antt`.
 -- Assumes nothing.
 use mathlib.Core.Path.{_≡_, refl, sym, _∙_, ap, subst}
 use Prim.Native.Nat.{ℕ, _+_, _<_, _≤_, _^_}
@@ -24,15 +24,14 @@ use contract.Running.{givenOf, tables, tablesOf}
 use types.Kit.{Given, Item, ‵, raw, some, later, _⊛_, ⋆, Sq, runs, anyQ, atRet, _$_, _∵_, !, qed, by, move, keep, drop, use1, use2, split, join, pick, rewrite, fsplit, fjoin, feqL, suffices, frame, await, done}
 use types.Part.{whole, sub, look-in, agg}
 use types.Run.{look, init, store, forget, stop, hop, fld, from, load, lit, addr, of-opd, and-then, no-more, bin, assigns, assigns-last, land, first, blocks, returns, enter, alloc1, alloc0, params1, pass1, pass0, free1, free0, exec, Below, again, loops}
-use sound.WpLaws.{FmC, fmOf, WpFn-mono}
+use sound.WpLaws.{fmOf, WpFn-mono}
 use denote.RattleType.{owns}
-use denote.Shadow.{pureI}
 use denote.Laws.{Is, shows}
 use denote.Builtin.{usize}
 use denote.Plain.{uint-makes, uint-vals, uint-tells, uint-lawful}
 use denote.Memory.{pointee}
 use denote.Ref.{RefT}
-use denote.Slice.{sliceTy, sliceVal, MutSlice, Room, heres, codedHoleys, at-slice, slice-vals, mut-slice-tells}
+use denote.Slice.{sliceTy, sliceVal, MutSlice, Room, heres, codedHoleys, slice-vals, mut-slice-tells}
 use denote.Lend.{Held}
 use denote.Index.{row, opens-slice, closes-slice}
 use denote.Signature.{plain}
@@ -47,12 +46,12 @@ use denote.Triple.Walked.{says, needs, Stays, stay-slice, stay-dropped, walkOf, 
 use denote.Exit.{yes}
 use Rattle.replay.specs.declared.entry.Entry.{Entry}
 use Rattle.replay.specs.declared.entry.Purge.{Purge}
-use Rattle.replay.specs.Cache.{swept, sweeping, afterReading}
+use Rattle.replay.specs.Cache.{swept, sweeping, afterRead}
 use Rattle.lent_cache.proofs.Rows.{R}
 use Rattle.lent_cache.proofs.Purges.{P, P-mir, P-val, P-vals, P-tells, P-makes, P-typed}
 use Rattle.lent_cache.proofs.Tests.{tests}
-use Rattle.lent_cache.proofs.Lending.{lent-list, lends, comes-back}
-use Rattle.lent_cache.proofs.Reading.{Reading, Nearer, Nearer-wf, begun, ended}
+use Rattle.lent_cache.proofs.Lending.{lent-list, slice-whole, lends, comes-back}
+use Rattle.lent_cache.proofs.Halfway.{Halfway, Nearer, Nearer-wf, begun, ended}
 use Rattle.lent_cache.proofs.pass.read_entry as turn
 use Rattle.lent_cache.proofs.pass.read_entry.Symbol as turn-def
 use Rattle.lent_cache.proofs.pass.read_entry.Symbol.{name as #read-entry}
@@ -99,14 +98,12 @@ module _ {M : Type 1} (𝓤 : URA M) (H : Heap 𝓤) (A : Atoms 𝓤) (W : Given
       qed W (‵ (fobs γ (codedHoleys R .code (heres R zs))) ∷ ‵ (fbor κ (Held R (length zs) b o γ)) ∷ ‵ (flft κ q) ∷ []) ∵
       suffices ! _ (ends-at 𝓤 H A f.ended stayed (f.clauses 𝓤 H A mem run) W (((κ, tt), (q, tt), tt, a, at), tt) (vint w64 r) r (zs, (tt, (tt, tt))) (l, (tt, (tt, tt)))) $ says ! e $
       nothing ! $ move ! (3 ∷ 0 ∷ []) $ join ! $ frame ! $
-      -- [obs; the borrow]: with the fact on the MIR value it is what the slice owns
-      fjoin ! $ pureI ! (at-slice R (lent-list b o γ zs) (s ∷ [])) (tt, (tt, tt)) (ap (λ (m : ℕ). sliceVal (b, o) m ∷ []) (sym l), subst (Room R) (sym l) room) $ fjoin ! $
-      nothing ! $ nothing ! $ fjoin ! $ nothing ! $ fjoin ! $ move ! (1 ∷ 0 ∷ []) $ fjoin ! $
+      slice-whole ! ys zs κ b o γ l room $ nothing ! $ nothing ! $ fjoin ! $ nothing ! $ fjoin ! $ move ! (1 ∷ 0 ∷ []) $ fjoin ! $
       owned ! usize (Is usize) (uint-makes 𝓤 H A W w64) r _ (refl, fits) $ move ! (1 ∷ 0 ∷ []) $ done !
 
   -- ---- the call of a turn
   abbrev State : Type 0
-  State = Reading p ys count
+  State = Halfway p ys count
 
   abbrev read-args : State → GName → RefT (List Entry) × (ℕ × (ℕ × (Purge × Unit {0})))
   read-args c δ = (lent-list b o δ (c .list), (c .left, (c .i, (p, tt))))
@@ -162,7 +159,7 @@ module _ {M : Type 1} (𝓤 : URA M) (H : Heap 𝓤) (A : Atoms 𝓤) (W : Given
         use2 W (raw (Read 𝓤 H A mem run .pre (to-read c α δ))) (goes-read c α δ l) $
         calls-at ! (fmOf 𝓤 H (W .laws) 𝓣) (Read 𝓤 H A mem run) known (to-read c α δ) (and-then ! (load ! (from ! (stop !)) (look ! 2 refl)) (and-then ! (load ! (from ! (stop !)) (look ! 10 refl)) (and-then ! (load ! (from ! (stop !)) (look ! 8 refl)) (and-then ! (load ! (from ! (stop !)) (look ! 12 refl)) (no-more !))))) (λ w.
         use1 W (later (some (λ (r : ℕ). ((‵ (flft (α ∷ []) fullShare) ⊛ ‵ ftrue) ⊛ ‵ (usize .own r (w ∷ []))) ⊛ raw (ensured 𝓤 H A turn.ended (turn.clauses 𝓤 H A mem run) (α ∷ [], tt) (read-args c δ) ys r)))) (id⊢ 𝓤 _) $ await ! tt $ pick ! (λ r. split ! $ move ! (1 ∷ []) $
-        use1 W (some (λ (zs : Lasts). ‵ (lasts turn.ended (α ∷ [], tt) (read-args c δ) zs) ⊛ raw (fact 𝓤 (swept (zs .0) r ≡ afterReading p ys (c .i + 1))))) (id⊢ 𝓤 _) $ pick ! (λ zs. split ! $ move ! (1 ∷ []) $ heard ! (swept (zs .0) r ≡ afterReading p ys (c .i + 1)) (λ stands.
+        use1 W (some (λ (zs : Lasts). ‵ (lasts turn.ended (α ∷ [], tt) (read-args c δ) zs) ⊛ raw (fact 𝓤 (swept (zs .0) r ≡ afterRead p ys (c .i + 1))))) (id⊢ 𝓤 _) $ pick ! (λ zs. split ! $ move ! (1 ∷ []) $ heard ! (swept (zs .0) r ≡ afterRead p ys (c .i + 1)) (λ stands.
         fsplit ! $ fsplit ! $ move ! (1 ∷ []) $ feqL ! (λ same.
         -- [the last list; …; the token and the number; the loan; _8; …]
         move ! (2 ∷ []) $ split ! $ move ! (1 ∷ []) $ peeks ! usize (Is usize) (shows 𝓤 H A usize) r (w ∷ []) (λ r-is.

@@ -1,7 +1,7 @@
 -- `lent_cache::pass::read_entry` meets its contract: a walk of its MIR, by hand. The borrow is opened, one entry is taken out and
 -- an empty one put in its place; where it stays it is put at the end of those kept; and the borrow is closed.
 -- Assumes nothing.
-use mathlib.Core.Path.{_≡_, refl, sym, _∙_, ap, subst}
+use mathlib.Core.Path.{_≡_, refl, sym, _∙_, ap}
 use Prim.Native.Nat.{ℕ, _+_, _*_, _<_, _≤_, _^_}
 use mathlib.Core.Bool.{Bool}
 use mathlib.Core.List.{List, [], _∷_}
@@ -24,14 +24,13 @@ use types.Part.{whole, sub, look-in, agg}
 use types.Run.{look, look-raw, init, store, store-raw, forget, stop, hop, fld, from, load, lit, of-opd, and-then, no-more, bin, assigns, land, returns, returns-within, enter, alloc1, alloc0, params1, pass1, pass0, free1, free0}
 use sound.WpLaws.{FmC, fmOf, WpFn-mono}
 use denote.RattleType.{owns}
-use denote.Shadow.{pureI}
 use denote.Laws.{Is, shows}
 use denote.Builtin.{usize, bool}
 use denote.Plain.{uint-makes, uint-vals, uint-tells, bool-lawful}
 use denote.Ref.{RefT}
-use denote.Slice.{sliceVal, MutSlice, Room, heres, codedHoleys, at-slice, slice-vals, mut-slice-tells}
+use denote.Slice.{sliceVal, MutSlice, Room, heres, codedHoleys, slice-vals, mut-slice-tells}
 use denote.Lend.{Held}
-use denote.Index.{row, place-is, elem-back, opens-slice, closes-slice}
+use denote.Index.{place-is, elem-back, opens-slice, closes-slice}
 use denote.Signature.{plain}
 use denote.Steps.{only, owned, peeks, heard, nothing}
 use denote.Triple.Call.{calls-at}
@@ -44,13 +43,13 @@ use denote.Triple.Walked.{says, needs, Stays, stay-slice, stay-dropped, walkOf, 
 use denote.Exit.{yes}
 use Rattle.replay.specs.declared.entry.Entry.{Entry}
 use Rattle.replay.specs.declared.entry.Purge.{Purge}
-use Rattle.replay.specs.Cache.{empty, stays, swept, afterReading}
-use Rattle.replay.specs.Cache.Pass.{read-length, read-below, read-goes, read-stays}
-use Rattle.replay.proofs.entry.Entry.Laws as 𝓔′
+use Rattle.replay.specs.Cache.{empty, stays, swept, afterRead}
+use Rattle.replay.specs.Cache.Pass.{turn-length, turn-below, turn-goes, turn-stays}
 use Rattle.replay.proofs.cache.survives as test
 use Rattle.replay.proofs.cache.survives.Symbol as test-def
 use Rattle.replay.proofs.cache.survives.Symbol.{name as #survives}
 use Rattle.replay.proofs.cache.survives.Met as test-thm
+use Rattle.lent_cache.proofs.Lending.{lent-list, slice-whole}
 use Rattle.lent_cache.proofs.Rows.{R, R-vals, R-makes, R-typed, empty-is, entry-out, entry-put}
 use Rattle.lent_cache.proofs.Purges.{P, P-val, P-vals, P-tells, P-makes, P-typed}
 use Rattle.lent_cache.proofs.Tests.{guards, holds, fails}
@@ -67,16 +66,12 @@ module _ {M : Type 1} (𝓤 : URA M) (H : Heap 𝓤) (A : Atoms 𝓤) (mem : Mem
   Survives = tripleOf 𝓤 H A test.signature (test.spec 𝓤 H A mem run)
 
 module _ {M : Type 1} (𝓤 : URA M) (H : Heap 𝓤) (A : Atoms 𝓤) (W : Given 𝓤 H A) (mem : Memory → SProp 𝓤) (run : Routine → Fun 𝓤) (κ : Lft) (q : Share) (b o : ℕ) (γ : GName) (ys : List Entry) (left i : ℕ) (p : Purge) (before : List Entry)
-    (room : Room R (length ys)) (left-fits : left < 2 ^ 64) (i-fits : i < 2 ^ 64) (p-is : Is P p (P-vals p)) (within : i < length before) (stands : swept ys left ≡ afterReading p before i) where
-  -- the borrow at the list l
-  abbrev x : List Entry → RefT (List Entry)
-  x l = record { ptr = (b, o); name = γ; now = l }
-
+    (room : Room R (length ys)) (left-fits : left < 2 ^ 64) (i-fits : i < 2 ^ 64) (p-is : Is P p (P-vals p)) (within : i < length before) (stands : swept ys left ≡ afterRead p before i) where
   abbrev Arg : Type 0
   Arg = RefT (List Entry) × (ℕ × (ℕ × (Purge × Unit {0})))
 
   abbrev a : Arg
-  a = (x ys, (left, (i, (p, tt))))
+  a = (lent-list b o γ ys, (left, (i, (p, tt))))
 
   abbrev s : Val
   s = sliceVal (b, o) (length ys)
@@ -87,15 +82,13 @@ module _ {M : Type 1} (𝓤 : URA M) (H : Heap 𝓤) (A : Atoms 𝓤) (W : Given
   abbrev Post : Val → SProp 𝓤
   Post = walkOf 𝓤 H A f.ended stayed (f.clauses 𝓤 H A mem run) .post (((κ, tt), (q, tt), tt, a, at), before)
 
-  exits : (zs : List Entry) (r : ℕ) → length zs ≡ length ys → r < 2 ^ 64 → swept zs r ≡ afterReading p before (i + 1)
+  exits : (zs : List Entry) (r : ℕ) → length zs ≡ length ys → r < 2 ^ 64 → swept zs r ≡ afterRead p before (i + 1)
       → ent 𝓤 (⋆ 𝓤 H A (‵ (fobs γ (codedHoleys R .code (heres R zs))) ∷ ‵ (fbor κ (Held R (length zs) b o γ)) ∷ ‵ (flft κ q) ∷ [])) (Post (vint w64 r))
   exits zs r l fits e =
       qed W (‵ (fobs γ (codedHoleys R .code (heres R zs))) ∷ ‵ (fbor κ (Held R (length zs) b o γ)) ∷ ‵ (flft κ q) ∷ []) ∵
       suffices ! _ (ends-at 𝓤 H A f.ended stayed (f.clauses 𝓤 H A mem run) W (((κ, tt), (q, tt), tt, a, at), before) (vint w64 r) r (zs, (tt, (tt, (tt, tt)))) (l, (tt, (tt, (tt, tt))))) $ says ! e $
       nothing ! $ move ! (3 ∷ 0 ∷ []) $ join ! $ frame ! $
-      -- [obs; the borrow]: with the fact on the MIR value it is what the slice owns
-      fjoin ! $ pureI ! (at-slice R (x zs) (s ∷ [])) (tt, (tt, tt)) (ap (λ (m : ℕ). sliceVal (b, o) m ∷ []) (sym l), subst (Room R) (sym l) room) $ fjoin ! $
-      nothing ! $ nothing ! $ fjoin ! $ nothing ! $ fjoin ! $ nothing ! $ fjoin ! $ move ! (1 ∷ 0 ∷ []) $ fjoin ! $
+      slice-whole ! ys zs κ b o γ l room $ nothing ! $ nothing ! $ fjoin ! $ nothing ! $ fjoin ! $ nothing ! $ fjoin ! $ move ! (1 ∷ 0 ∷ []) $ fjoin ! $
       owned ! usize (Is usize) (uint-makes 𝓤 H A W w64) r _ (refl, fits) $ move ! (1 ∷ 0 ∷ []) $ done !
 
   -- ---- the entry, and whether it stays
@@ -103,10 +96,10 @@ module _ {M : Type 1} (𝓤 : URA M) (H : Heap 𝓤) (A : Atoms 𝓤) (W : Given
   e = getD ys i empty
 
   i-within : i < length ys
-  i-within = omega (arith, read-length p before i stands within)
+  i-within = omega (arith, turn-length p before i stands within)
 
   left-below : left ≤ i
-  left-below = read-below p before i stands within
+  left-below = turn-below p before i stands within
 
   more-fits : left + 1 < 2 ^ 64
   more-fits = omega (arith, i-within, left-below, room .0)
@@ -164,11 +157,11 @@ module _ {M : Type 1} (𝓤 : URA M) (H : Heap 𝓤) (A : Atoms 𝓤) (W : Given
         entry-put ! (set ys i empty) left e b o (simp length-set (omega (arith, i-within, left-below))) is $
         -- return left + 1
         move ! (0 ∷ 27 ∷ 28 ∷ 29 ∷ []) $ closes-slice ! tt R ys (set (set ys i empty) left e) (simp length-set) b o $
-        assigns ! (bin ! (load ! (from ! (stop !)) (look ! 23 refl)) (lit ! tt) (record { fits = more-fits })) (from ! (stop !)) (init ! 27 refl (tt, record { fits = more-fits })) $
+        assigns ! (bin ! (load ! (from ! (stop !)) (look ! 23 refl)) (lit ! tt) (record { fits = omega (arith, more-fits) })) (from ! (stop !)) (init ! 27 refl (tt, record { fits = omega (arith, more-fits) })) $
         returns-within ! Post refl (look ! 27 refl) $ forget ! 3 refl $ forget ! 5 refl $ forget ! 7 refl $ forget ! 9 refl $ forget ! 11 refl $ forget ! 13 refl $ forget ! 15 refl $ forget ! 17 refl $ forget ! 19 refl $ forget ! 21 refl $ forget ! 23 refl $ forget ! 25 refl $ forget ! 27 refl $
         move ! (27 ∷ 28 ∷ []) $ free1 ! $ move ! (25 ∷ 26 ∷ []) $ free1 ! $ move ! (23 ∷ 24 ∷ []) $ free1 ! $ move ! (21 ∷ 22 ∷ []) $ free1 ! $ move ! (19 ∷ 20 ∷ []) $ free1 ! $ move ! (17 ∷ 18 ∷ []) $ free1 ! $ move ! (15 ∷ 16 ∷ []) $ free1 ! $
         move ! (13 ∷ 14 ∷ []) $ free1 ! $ move ! (11 ∷ 12 ∷ []) $ free1 ! $ move ! (9 ∷ 10 ∷ []) $ free1 ! $ move ! (7 ∷ 8 ∷ []) $ free1 ! $ move ! (5 ∷ 6 ∷ []) $ free1 ! $ move ! (3 ∷ 4 ∷ []) $ free1 ! $ free0 ! $
-        by ! (exits (set (set ys i empty) left e) (left + 1) (simp length-set) more-fits (read-stays p before i stands within (sym r-is ∙ holds r stayed-on)))))
+        by ! (exits (set (set ys i empty) left e) (left + 1) (simp length-set) more-fits (turn-stays p before i stands within (sym r-is ∙ holds r stayed-on)))))
         (λ gone.
         -- left
         move ! (0 ∷ 27 ∷ 28 ∷ 29 ∷ []) $ closes-slice ! tt R ys (set ys i empty) (simp length-set) b o $
@@ -176,7 +169,7 @@ module _ {M : Type 1} (𝓤 : URA M) (H : Heap 𝓤) (A : Atoms 𝓤) (W : Given
         returns ! (look ! 27 refl) $ forget ! 7 refl $ forget ! 9 refl $ forget ! 11 refl $ forget ! 13 refl $ forget ! 15 refl $ forget ! 17 refl $ forget ! 19 refl $ forget ! 21 refl $ forget ! 23 refl $ forget ! 25 refl $ forget ! 27 refl $
         move ! (27 ∷ 28 ∷ []) $ free1 ! $ move ! (25 ∷ 26 ∷ []) $ free1 ! $ move ! (23 ∷ 24 ∷ []) $ free1 ! $ move ! (21 ∷ 22 ∷ []) $ free1 ! $ move ! (19 ∷ 20 ∷ []) $ free1 ! $ move ! (17 ∷ 18 ∷ []) $ free1 ! $ move ! (15 ∷ 16 ∷ []) $ free1 ! $
         move ! (13 ∷ 14 ∷ []) $ free1 ! $ move ! (11 ∷ 12 ∷ []) $ free1 ! $ move ! (9 ∷ 10 ∷ []) $ free1 ! $ move ! (7 ∷ 8 ∷ []) $ free1 ! $ move ! (5 ∷ 6 ∷ []) $ free1 ! $ move ! (3 ∷ 4 ∷ []) $ free1 ! $ free0 ! $
-        by ! (exits (set ys i empty) left (simp length-set) left-fits (read-goes p before i stands within (sym r-is ∙ fails r gone)))))))))))))))))))))))
+        by ! (exits (set ys i empty) left (simp length-set) left-fits (turn-goes p before i stands within (sym r-is ∙ fails r gone)))))))))))))))))))))))
 
 module _ {M : Type 1} (𝓤 : URA M) (H : Heap 𝓤) (A : Atoms 𝓤) (W : Given 𝓤 H A) (mem : Memory → SProp 𝓤) (run : Routine → Fun 𝓤) (𝓣 : Tables 𝓤 H) (known : Triple 𝓤 (𝓣 .C #survives) (Survives 𝓤 H A mem run)) where
   abbrev runs-body : Fun 𝓤
