@@ -13,7 +13,7 @@ use Rattle.replay.specs.Cache.{empty, entries, padded, written, becomes,
 -- ---- written
 
 padded-length : (count : ℕ) (xs : List Entry) → length (padded count xs) ≡ length xs + (count - length xs)
-padded-length count xs = simp (length-append, length-replicate)
+padded-length count xs = simp (length-append, length-replicate) (omega arith)
 
 module _ (list : List Entry) (count : ℕ) (xs : List Entry) where
   -- the first places hold the entries
