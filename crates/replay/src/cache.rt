@@ -4,7 +4,6 @@ ghost use mathlib.Core.Path.{_≡_};
 ghost use Prim.Native.Nat.{_<_, _≤_};
 ghost use Rattle.replay.specs.Cache.{same, present, stays, entries, cacheRefusal, appending, refused, cacheOutcome, remembered};
 use crate::entry::Answer;
-use crate::entry::EMPTY;
 use crate::entry::Entry;
 use crate::entry::PLACES;
 use crate::entry::Purge;

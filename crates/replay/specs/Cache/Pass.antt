@@ -20,7 +20,7 @@ module _ (p : Purge) (list : List Entry) where
   at-none = refl
 
   module _ (i : ℕ) (l : i ≤ length list) where
-    pub kept-below : length (kept p (entries list i)) ≤ i
+    kept-below : length (kept p (entries list i)) ≤ i
     unfolding kept
     kept-below = omega (arith, filter-length (stays p) (take i list), length-take-le i list l)
 
