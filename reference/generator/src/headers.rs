@@ -30,6 +30,16 @@ pub fn any_header(random: &mut Random) -> Header {
     }
 }
 
+/// A header of five principals or more. 2 and 3 are bad, so that the intruder makes
+/// deliveries for them, and tickets live so many ticks or longer.
+pub fn with_bad_responders(random: &mut Random, ticket_life: u32) -> Header {
+    let mut header = any_header(random);
+    header.principals = header.principals.max(5);
+    header.flags |= 0b1100;
+    header.ticket_life = header.ticket_life.max(ticket_life);
+    header
+}
+
 fn life(random: &mut Random, usual: &[u32]) -> u32 {
     match random.below(10) {
         0 => random.pick(&[u32::MAX, u32::MAX - 1, 1 << 31]),

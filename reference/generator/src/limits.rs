@@ -6,7 +6,7 @@ use reference::terms::MAX_TERMS;
 
 use crate::actions;
 use crate::conditions::{facts, sends};
-use crate::headers::any_header;
+use crate::headers::{any_header, with_bad_responders};
 use crate::known::add_some;
 use crate::random::Random;
 use crate::scenes::{act, deliver, made_delivery, set_clock};
@@ -54,10 +54,7 @@ fn prepare(walk: &mut Walk, spell_sends: bool) -> Vec<StepRecord> {
 /// Exchanges, then any of the three tables filled up, then records prepared
 /// before and others, with the clock moving.
 pub fn full_tables(random: &mut Random) -> Walk {
-    let mut header = any_header(random);
-    header.principals = header.principals.max(5);
-    header.flags |= 0b1100;
-    header.ticket_life = header.ticket_life.max(5);
+    let header = with_bad_responders(random, 5);
     let mut walk = Walk::new(random.clone(), header);
     let (fill_all_runs, fill_cache, fill_all_terms) =
         (walk.random.one_in(3), walk.random.one_in(2), walk.random.percent(70));
@@ -196,10 +193,7 @@ fn prepare_last(walk: &mut Walk, record: StepRecord) {
 
 /// A full cache turns a delivery away; entries are forgotten; it comes again.
 pub fn full_cache(random: &mut Random) -> Walk {
-    let mut header = any_header(random);
-    header.principals = header.principals.max(5);
-    header.flags |= 0b1100;
-    header.ticket_life = header.ticket_life.max(100);
+    let mut header = with_bad_responders(random, 100);
     header.authenticator_life = random.between(2, 40);
     let mut walk = Walk::new(random.clone(), header);
     let highest_ta = walk.random.between(10, 50);

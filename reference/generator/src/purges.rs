@@ -4,7 +4,7 @@
 use reference::file::StepRecord;
 use reference::realm::{Answer, Run, MAX_ENTRIES};
 
-use crate::headers::any_header;
+use crate::headers::with_bad_responders;
 use crate::random::Random;
 use crate::scenes::{make_delivery, set_clock, Made};
 use crate::walk::Walk;
@@ -12,10 +12,7 @@ use crate::walk::Walk;
 /// Deliveries fill the cache, in part or whole. Then ticks: entries are purged,
 /// deliveries are sent again, and new ones come.
 pub fn each_tick(random: &mut Random) -> Walk {
-    let mut header = any_header(random);
-    header.principals = header.principals.max(5);
-    header.flags |= 0b1100;
-    header.ticket_life = header.ticket_life.max(100);
+    let mut header = with_bad_responders(random, 100);
     header.authenticator_life = random.between(2, 6);
     let mut walk = Walk::new(random.clone(), header);
     let responders: &[u8] = walk.random.pick(&[&[2][..], &[2, 3], &[2, 2, 2, 3]]);
