@@ -1,4 +1,6 @@
-//! The numbers by which a record is turned away.
+//! The numbers by which a record is turned away. They are looked at in rising
+//! order, but for two: 10 comes before all others, and 22 "after 17 and before
+//! 18".
 
 /// A refusal is its number alone.
 #[derive(Clone, Copy, Debug, PartialEq, Eq, PartialOrd, Ord, Hash)]
@@ -42,6 +44,8 @@ pub enum Refusal {
     /// The file does not fit into the buffer at the offset. Only a caller of the
     /// writer meets it.
     NoRoomInBuffer = 21,
+    /// The authenticator's time is too far ahead of the clock.
+    AuthenticatorAhead = 22,
 }
 
 impl Refusal {

@@ -1,4 +1,4 @@
-//! The steps 1 to 10: for each its refusals in rising order, then its effect.
+//! The steps 1 to 10: for each its refusals in their order, then its effect.
 //! The fields of the record have passed the refusals 4, 5 and 6 before.
 
 use crate::file::StepRecord;
@@ -99,6 +99,9 @@ impl Realm {
         if self.is_over(ta, self.settings.authenticator_life) {
             return Err(Refusal::AuthenticatorExpired);
         }
+        if self.is_ahead(ta, self.settings.authenticator_life) {
+            return Err(Refusal::AuthenticatorAhead);
+        }
         let session_key = ticket.session_key;
         let entry = Entry { responder: b, session_key, authenticator_time: ta };
         if self.cache.contains(&entry) {
@@ -193,6 +196,11 @@ impl Realm {
     /// The clock is at or above start + life; the sum is exact.
     fn is_over(&self, start: u32, life: u32) -> bool {
         u64::from(self.clock) >= u64::from(start) + u64::from(life)
+    }
+
+    /// The time is above clock + life; the sum is exact.
+    fn is_ahead(&self, time: u32, life: u32) -> bool {
+        u64::from(time) > u64::from(self.clock) + u64::from(life)
     }
 
     /// The number of the next run; below 64.

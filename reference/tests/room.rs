@@ -9,7 +9,7 @@ use common::{check, check_each, times, EXCHANGE};
 /// Terms: 0 key 64, 1 principal 1, 6 the ticket, then 5 terms a delivery.
 fn full_cache() -> String {
     let mut text = String::from(
-        "HD n=4 flags=0x0006 Ls=100 La=10 => ok
+        "HD n=4 flags=0x0006 Ls=100 La=20 => ok
          TM 4 L=64 => 0 new
          TM 0 L=1 => 1 new
          TM 1 R=900 => 2 new
@@ -66,11 +66,24 @@ fn an_old_delivery_on_a_full_cache_is_old() {
     check_each(
         &beginning,
         &[
-            &format!("ST 7 t=26 => ok - +0\nST 5 run=16 m={m} => refused 17"),
-            &format!("ST 7 t=25 => ok - +0\nST 5 run=16 m={m} => refused 19"),
+            &format!("ST 7 t=36 => ok - +0\nST 5 run=16 m={m} => refused 17"),
+            &format!("ST 7 t=35 => ok - +0\nST 5 run=16 m={m} => refused 19"),
             &format!("ST 7 t=1000 => ok - +0\nST 5 run=16 m={m} => refused 16"),
         ],
     );
+}
+
+#[test]
+fn a_time_ahead_comes_before_a_full_cache() {
+    let dated = delivery(16, "refused 22").replace("TM 1 R=16", "TM 1 R=21");
+    let m = delivered(16);
+    check(&format!(
+        "{}{dated}
+         ST 7 t=1 => ok - +0
+         ST 5 run=16 m={m} => refused 19
+         end runs 17 wire 16 cache 16 clock 1",
+        full_cache(),
+    ));
 }
 
 #[test]
@@ -80,16 +93,16 @@ fn forgotten_entries_free_their_places() {
     let m = delivered(16);
     check(&format!(
         "{beginning}
-         ST 7 t=9 => ok - +0
+         ST 7 t=19 => ok - +0
          ST 8 b=2 => ok - +0
          ST 5 run=16 m={m} => refused 19
-         ST 7 t=11 => ok - +0
+         ST 7 t=21 => ok - +0
          ST 5 run=16 m={m} => refused 19
          ST 8 b=1 => ok - +0
          ST 5 run=16 m={m} => refused 19
          ST 8 b=2 => ok - +0            # Ta 0 and 1 go
          ST 5 run=16 m={m} => ok 16 +1
-         end runs 17 wire 17 cache 15 clock 11"
+         end runs 17 wire 17 cache 15 clock 21"
     ));
 }
 
@@ -102,7 +115,7 @@ fn a_full_cache_comes_before_a_full_table() {
         &format!("{beginning}{filled}"),
         &[
             &format!("ST 5 run=16 m={m} => refused 19"),
-            &format!("ST 7 t=10 => ok - +0\nST 8 b=2 => ok - +0\nST 5 run=16 m={m} => refused 20"),
+            &format!("ST 7 t=20 => ok - +0\nST 8 b=2 => ok - +0\nST 5 run=16 m={m} => refused 20"),
         ],
     );
 }

@@ -1,4 +1,4 @@
-//! Refusals 11 to 20: each alone, and which comes first of two.
+//! Refusals 11 to 20 and 22: each alone, and which comes first of two.
 
 mod common;
 
@@ -202,19 +202,97 @@ fn the_longest_lives() {
     );
 }
 
-#[test]
-fn a_time_far_ahead_is_accepted_and_kept() {
-    // The server's key leaks; the intruder dates an authenticator far ahead.
-    check(&format!(
-        "{EXCHANGE}
+/// The exchange with these lives and at this clock, its server's key leaked. Then
+/// the intruder dates an authenticator; the delivery is term 21.
+fn dated(ls: u32, la: u32, clock: u32, ta: u32) -> String {
+    let header = format!("HD n=5 Ls={ls} La={la} => ok\nST 7 t={clock} => ok - +0");
+    format!(
+        "{}
          ST 9 run=1 => ok 1 +0
-         TM 1 L=65535 R=65535 => 18 new
+         TM 1 L={} R={} => 18 new
          TM 5 L=0 R=18 => 19 new
          TM 6 L=19 R=5 => 20 new
-         TM 5 L=15 R=20 => 21 new
+         TM 5 L=15 R=20 => 21 new",
+        EXCHANGE.replace("HD n=5 Ls=100 La=10 => ok", &header),
+        ta >> 16,
+        ta & 0xffff,
+    )
+}
+
+#[test]
+fn a_time_at_clock_and_life_passes_and_the_next_does_not() {
+    let top = u32::MAX;
+    let taken = [
+        (100, 10, 0, 10),
+        (100, 1, 0, 1),
+        (100, 10, 7, 17),
+        (5, 10, 7, 17),
+        (100, 10, top - 10, top),
+        (100, top, 0, top),
+        // The sum is past 32 bits.
+        (100, 10, top - 5, top),
+        (100, top, top - 1, top),
+    ];
+    for (ls, la, clock, ta) in taken {
+        check(&format!("{}\nST 5 run=2 m=21 => ok 2 +1", dated(ls, la, clock, ta)));
+    }
+    let turned_away = [
+        (100, 10, 0, 11),
+        (100, 1, 0, 2),
+        (100, 10, 7, 18),
+        (5, 10, 7, 18),
+        (100, 10, 0, top),
+        (100, 10, top - 11, top),
+        (100, top - 1, 0, top),
+    ];
+    for (ls, la, clock, ta) in turned_away {
+        check(&format!(
+            "{}
+             ST 5 run=2 m=21 => refused 22
+             end runs 3 wire 5 cache 0 clock {clock}",
+            dated(ls, la, clock, ta),
+        ));
+    }
+}
+
+#[test]
+fn a_time_that_was_ahead_is_taken_once_the_clock_is_near() {
+    check(&format!(
+        "{}
+         ST 5 run=2 m=21 => refused 22
+         ST 7 t=9 => ok - +0
+         ST 5 run=2 m=21 => refused 22
+         ST 7 t=10 => ok - +0
          ST 5 run=2 m=21 => ok 2 +1
-         ST 7 t=4294967295 => ok - +0
+         ST 7 t=29 => ok - +0
          ST 8 b=2 => ok - +0
-         end runs 3 wire 6 cache 1 clock 4294967295"
+         ST 2 a=1 b=2 => ok 3 +0
+         ST 5 run=3 m=21 => refused 18
+         ST 7 t=30 => ok - +0
+         ST 5 run=3 m=21 => refused 17
+         ST 8 b=2 => ok - +0
+         end runs 4 wire 6 cache 0 clock 30",
+        dated(100, 10, 0, 20),
     ));
+}
+
+#[test]
+fn a_time_ahead_comes_after_the_ticket() {
+    let beginning = dated(5, 10, 0, 100);
+    check_each(
+        &beginning,
+        &[
+            "ST 7 t=4 => ok - +0\nST 5 run=2 m=21 => refused 22",
+            "ST 7 t=5 => ok - +0\nST 5 run=2 m=21 => refused 16",
+        ],
+    );
+}
+
+#[test]
+fn a_time_ahead_comes_before_a_full_table() {
+    let beginning = format!("{}\n{}", dated(100, 10, 0, 11), times(22, 512));
+    check_each(
+        &beginning,
+        &["ST 5 run=2 m=21 => refused 22", "ST 7 t=1 => ok - +0\nST 5 run=2 m=21 => refused 20"],
+    );
 }

@@ -1,9 +1,11 @@
 //! The cases of `call_cases`: document 01's cases F and A to D as walks, every
-//! refusal of a call, 10 in each of its causes, every table filled to its last
-//! place, terms that are known before, the two calls on the replay cache alone,
-//! and purges that forget some entries of a list, in patterns. Places past the
-//! counts hold what is no term, run or entry, or an entry that must not be read.
+//! refusal of a call, 10 in each of its causes, times from the future at the exact
+//! ticks, every table filled to its last place, terms that are known before, the
+//! two calls on the replay cache alone, and purges that forget some entries of a
+//! list, in patterns. Places past the counts hold what is no term, run or entry, or
+//! an entry that must not be read.
 
+mod ahead;
 mod broken;
 mod full;
 mod known;
@@ -109,6 +111,10 @@ fn opened(header: Header) -> World {
 /// K as term 5, the part for 1 as 11, the ticket 15, the authenticator 16, the
 /// delivery 17 and the confirmation 18. One entry is remembered.
 fn exchanged() -> World {
+    exchanged_in(HEADER)
+}
+
+fn exchanged_in(header: Header) -> World {
     let calls = [
         tick(5),
         opens(1, 1, 2),
@@ -119,15 +125,22 @@ fn exchanged() -> World {
         takes(5, 2, 17),
         opens(2, 1, 2),
     ];
-    made_all(&opened(HEADER), &calls)
+    made_all(&opened(header), &calls)
 }
 
-/// Behind the t terms that there are: a time, the initiator's part with it, that
-/// under K, and the delivery, which is term t + 3. Then a responder run.
-fn prepared(world: &World) -> World {
+/// Behind the t terms that there are: this time, the initiator's part with it, that
+/// under K, and the delivery, which is term t + 3.
+fn dated(world: &World, ta: u32) -> World {
     let t = world.tables.counts.terms as u32;
-    let parts = [term(1, 0, t), term(5, 0, t), term(6, t + 1, 5), term(5, 15, t + 2)];
-    made(&made_all(world, &parts), opens(2, 1, 2))
+    let time = term(1, ta >> 16, ta & 0xffff);
+    made_all(world, &[time, term(5, 0, t), term(6, t + 1, 5), term(5, 15, t + 2)])
+}
+
+/// The same with as many ticks after the clock as there are entries, so that each
+/// is another. Then a responder run.
+fn prepared(world: &World) -> World {
+    let ta = world.tables.clock + world.tables.counts.entries as u32;
+    made(&dated(world, ta), opens(2, 1, 2))
 }
 
 impl Script<World> {
@@ -251,6 +264,9 @@ pub fn script() -> Script<World> {
     refused::role_and_clock(&mut script);
     refused::messages(&mut script);
     refused::lives(&mut script);
+    ahead::at_clock_0(&mut script);
+    ahead::exact_ticks(&mut script);
+    ahead::order(&mut script);
     full::all_runs(&mut script);
     full::all_terms(&mut script);
     full::all_entries(&mut script);

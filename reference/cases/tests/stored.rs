@@ -40,7 +40,7 @@ fn every_line_has_68_bytes_and_no_blank_at_its_end() {
 
 #[test]
 fn every_refusal_is_met() {
-    let calls = [1, 2, 4, 5, 6, 10, 11, 12, 13, 14, 15, 16, 17, 18, 19, 20];
+    let calls = [1, 2, 4, 5, 6, 10, 11, 12, 13, 14, 15, 16, 17, 18, 19, 20, 22];
     let terms = [4, 5, 6, 10, 20];
     for (name, numbers) in [("call_cases", &calls[..]), ("term_tables", &terms[..])] {
         let output = stored(name, "stdout");

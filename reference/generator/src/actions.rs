@@ -189,8 +189,8 @@ pub fn some_time(walk: &mut Walk) -> u32 {
     let settings = walk.realm.settings;
     let (ls, la) = (u64::from(settings.ticket_life), u64::from(settings.authenticator_life));
     let clock = u64::from(walk.realm.clock);
-    let mut times =
-        vec![clock, clock, clock + 1, clock.saturating_sub(ls), clock.saturating_sub(la)];
+    let mut times = vec![clock, clock, clock + 1, clock + la];
+    times.extend([ls, la].map(|life| clock.saturating_sub(life)));
     for held in walk.realm.runs.iter().filter_map(|run| run.held) {
         let ts = u64::from(held.ticket_time);
         times.extend([ts, ts + ls]);

@@ -4,7 +4,7 @@
 use reference::marks::FORMATS;
 
 /// The refusals that a step can give, from the input table and the column
-/// "steps" of the state table.
+/// "steps" of the state table, in their order.
 ///
 /// - 1, 2 and 3 belong to the file and 4 to steps outside 1 to 10.
 /// - 10 is given for tables handed in that do not hold together. A walk starts
@@ -18,7 +18,7 @@ pub fn refusals_of_step(step: u8) -> &'static [u8] {
         2 => &[5, 6, 13],
         3 => &[5, 6, 13, 14, 15, 20],
         4 => &[5, 6, 11, 14, 15, 16, 20],
-        5 => &[5, 6, 11, 14, 15, 16, 17, 18, 19, 20],
+        5 => &[5, 6, 11, 14, 15, 16, 17, 22, 18, 19, 20],
         6 => &[5, 6, 11, 14, 15, 16],
         7 => &[5, 12],
         8 => &[5, 6],

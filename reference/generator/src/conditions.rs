@@ -1,6 +1,6 @@
 //! All refusals that apply to a record, not only the first. Each condition is
 //! asked on its own as far as its inputs are there, so this is also a second
-//! reading of the paper's two tables: the least of them must be the answer.
+//! reading of the paper's two tables: the first of them must be the answer.
 
 use std::collections::HashSet;
 
@@ -13,7 +13,8 @@ use crate::forms::{self, Kind, Sends};
 /// What is so before the record is taken.
 #[derive(Default)]
 pub struct Facts {
-    /// The numbers of all refusals that apply, rising.
+    /// The numbers of all refusals that apply, in the order in which they are
+    /// looked at.
     pub applies: Vec<u8>,
     /// For 5, 6, 11 and 14, which of their conditions apply.
     pub details: Vec<(u8, String)>,
@@ -67,8 +68,18 @@ pub fn facts(realm: &mut Realm, record: &Record) -> Facts {
         Record::Term(record) => term_facts(realm, record, &mut facts),
         Record::Step(record) => step_facts(realm, record, &mut facts),
     }
-    facts.applies.sort_unstable();
+    facts.applies.sort_by_key(|number| place_of(*number));
     facts
+}
+
+/// "10 is looked at first, the others in rising order", and 22 "after 17 and
+/// before 18".
+fn place_of(number: u8) -> (u8, u8) {
+    match number {
+        10 => (0, 0),
+        22 => (17, 1),
+        _ => (number, 0),
+    }
 }
 
 fn term_facts(realm: &Realm, record: &TermRecord, facts: &mut Facts) {
@@ -259,7 +270,11 @@ fn over(realm: &Realm, start: Option<u32>, life: u32) -> bool {
     start.is_some_and(|start| u64::from(start) + u64::from(life) <= u64::from(realm.clock))
 }
 
-/// 16 to 19.
+fn ahead(realm: &Realm, time: Option<u32>, life: u32) -> bool {
+    time.is_some_and(|time| u64::from(realm.clock) + u64::from(life) < u64::from(time))
+}
+
+/// 16 to 19, and 22.
 fn expiry_facts(realm: &Realm, step: u8, read: Read, facts: &mut Facts) {
     let settings = realm.settings;
     facts.refuse_if((4..=6).contains(&step) && over(realm, read.ts, settings.ticket_life), 16, "");
@@ -267,6 +282,7 @@ fn expiry_facts(realm: &Realm, step: u8, read: Read, facts: &mut Facts) {
         return;
     }
     facts.refuse_if(over(realm, read.ta, settings.authenticator_life), 17, "");
+    facts.refuse_if(ahead(realm, read.ta, settings.authenticator_life), 22, "");
     let same = |e: &Entry| {
         (e.responder, e.session_key, Some(e.authenticator_time)) == (read.b, read.key, read.ta)
     };

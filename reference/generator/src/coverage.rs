@@ -62,7 +62,7 @@ impl Tally {
 
 /// The cells that one file meets, once for each time it meets them.
 ///
-/// Panics if the answer to a record is not the least refusal that applies: the
+/// Panics if the answer to a record is not the first refusal that applies: the
 /// second reading in `conditions` and the reference would then disagree.
 pub fn cells_met(file: &[u8]) -> Vec<String> {
     let (header, mut rest) = match read_header(file) {

@@ -3,7 +3,7 @@
 use reference::marks::FORMATS;
 
 use crate::cells::{most_added, refusals_of_kind};
-use crate::{forms, header_cells, purge_cells};
+use crate::{ahead_cells, forms, header_cells, purge_cells};
 
 /// Cells that say in which way a cell above was met: each condition of a
 /// refusal while no other condition of it holds, the limits hit exactly, and
@@ -18,6 +18,7 @@ pub fn edge_cells() -> Vec<String> {
     cells.extend(stage_and_form_edges());
     cells.extend(order_edges());
     cells.extend(purge_cells::edges());
+    cells.extend(ahead_cells::edges());
     cells.extend(OTHER_EDGES.iter().map(|cell| cell.to_string()));
     cells
 }
@@ -176,10 +177,11 @@ fn stage_and_form_edges() -> Vec<String> {
 }
 
 /// Two refusals that apply together, and the first is given. Left out are pairs
-/// that cannot be: what a message of the wrong form says (14 with 16 to 20, but
+/// that cannot be: what a message of the wrong form says (14 with 16 to 22, but
 /// step 6 reads the run's own Ts), what a field of the wrong value names (6 with
-/// most of the state), and 18 with 20, since a remembered Ta was answered with
-/// {Ta}K, which is then a term.
+/// most of the state), 18 with 20, since a remembered Ta was answered with {Ta}K,
+/// which is then a term, and 22 with 17, the other side, and with 18, since a Ta
+/// is remembered at or below clock + La and the clock does not go back.
 fn order_edges() -> Vec<String> {
     let pairs: [(u8, &[(u8, u8)]); 10] = [
         (1, &[(5, 6), (5, 13), (5, 20), (6, 13), (13, 20)]),
@@ -225,20 +227,25 @@ fn order_edges() -> Vec<String> {
                 (11, 15),
                 (11, 16),
                 (11, 17),
+                (11, 22),
                 (11, 18),
                 (11, 19),
                 (14, 15),
                 (15, 16),
                 (15, 17),
+                (15, 22),
                 (15, 19),
                 (15, 20),
                 (16, 17),
+                (16, 22),
                 (16, 18),
                 (16, 19),
                 (16, 20),
                 (17, 18),
                 (17, 19),
                 (17, 20),
+                (22, 19),
+                (22, 20),
                 (18, 19),
                 (19, 20),
             ],
@@ -294,13 +301,13 @@ const OTHER_EDGES: [&str; 77] = [
     "step 5 / ok / Ts + Ls past 32 bits",
     "step 5 / ok / one tick before Ta + La",
     "step 5 / ok / Ta + La past 32 bits",
-    "step 5 / ok / Ta above the clock",
     "step 5 / ok / last entry",
     "step 5 / ok / an entry differs in b alone",
     "step 5 / ok / an entry differs in K alone",
     "step 5 / ok / an entry differs in Ta alone",
     "step 5 / ok / refused 15 before",
     "step 5 / ok / refused 19 before",
+    "step 5 / ok / refused 22 before",
     "step 5 / refused 16 / at the tick",
     "step 5 / refused 17 / at the tick",
     "step 5 / refused 18 / by a run for another a",

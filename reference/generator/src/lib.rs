@@ -5,6 +5,8 @@
 //! can be chosen by what the tables hold.
 
 pub mod actions;
+pub mod ahead;
+pub mod ahead_cells;
 pub mod cells;
 pub mod conditions;
 pub mod coverage;

@@ -194,7 +194,7 @@ fn prepare_last(walk: &mut Walk, record: StepRecord) {
 /// A full cache turns a delivery away; entries are forgotten; it comes again.
 pub fn full_cache(random: &mut Random) -> Walk {
     let mut header = with_bad_responders(random, 100);
-    header.authenticator_life = random.between(2, 40);
+    header.authenticator_life = random.between(4, 40);
     let mut walk = Walk::new(random.clone(), header);
     let highest_ta = walk.random.between(10, 50);
     let mut turned_away = Vec::new();

@@ -9,6 +9,7 @@ use reference::realm::{Answer, Entry, Realm, Role, Run, MAX_ENTRIES, MAX_RUNS};
 use reference::refusal::Refusal;
 use reference::terms::{Message, MAX_TERMS};
 
+use crate::ahead_cells;
 use crate::cells::most_added;
 use crate::conditions::{facts, Facts};
 use crate::forms;
@@ -71,8 +72,8 @@ impl Observer {
         let before = self.tables();
         let count = self.realm.terms.count();
         let answer = self.realm.apply(record);
-        let least = facts.applies.first().copied();
-        assert_eq!(answer.err().map(Refusal::number), least, "{record:?}");
+        let first = facts.applies.first().copied();
+        assert_eq!(answer.err().map(Refusal::number), first, "{record:?}");
         assert!(answer.is_ok() || before == self.tables(), "changed by a refused {record:?}");
         if let Ok(answer) = answer {
             let added = facts.new_terms.unwrap_or(0);
@@ -238,6 +239,7 @@ impl Observer {
             _ => {}
         }
         if record.step == 5 {
+            self.cells.extend(ahead_cells::cells(&self.realm, facts));
             self.entry_cells(record, facts, answer);
         }
     }
@@ -334,8 +336,6 @@ impl Observer {
             let at = answer == Some(number) && clock == end;
             self.met_if(at, &format!("step {step} / refused {number} / at the tick"));
         }
-        let ahead = answer.is_none() && ta.is_some_and(|ta| u64::from(ta) > clock);
-        self.met_if(ahead, "step 5 / ok / Ta above the clock");
     }
 
     fn forget_cells(&mut self, b: u8) {
@@ -394,6 +394,7 @@ impl Observer {
         let refused = self.refused.get(&(record.run, record.message)).copied();
         self.met_if(refused == Some(15), "step 5 / ok / refused 15 before");
         self.met_if(refused == Some(19), "step 5 / ok / refused 19 before");
+        self.met_if(refused == Some(22), "step 5 / ok / refused 22 before");
     }
 }
 

@@ -65,7 +65,7 @@ fn purge(walk: &mut Walk, responders: &[u8]) {
 }
 
 /// An earlier delivery, to a new run of the same two.
-fn deliver_again(walk: &mut Walk) {
+pub fn deliver_again(walk: &mut Walk) {
     let mut past = walk.past.clone();
     past.retain(|record| record.step == 5);
     if past.is_empty() {

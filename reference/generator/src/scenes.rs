@@ -7,7 +7,7 @@ use reference::terms::Shape;
 use crate::headers::any_header;
 use crate::random::Random;
 use crate::walk::Walk;
-use crate::{actions, damage, extremes, known, limits, purges};
+use crate::{actions, ahead, damage, extremes, known, limits, purges};
 
 /// A file of any kind. Files on full tables and of full length are long, so
 /// they are made less often.
@@ -24,7 +24,8 @@ pub fn any_damaged_file(random: &mut Random) -> Vec<u8> {
 
 fn file_of(random: &mut Random, kind: usize) -> Vec<u8> {
     match kind {
-        0..=54 => mixed(random).bytes,
+        0..=49 => mixed(random).bytes,
+        50..=54 => ahead::fast_clocks(random).bytes,
         55..=59 => purges::each_tick(random).bytes,
         60..=64 => known::known_parts(random).bytes,
         65..=84 => exchanges(random).bytes,
@@ -182,13 +183,15 @@ pub fn collisions(random: &mut Random) -> Walk {
     walk
 }
 
-/// Step 2 and step 5 with a ticket of the intruder's making; gives the latter.
+/// Step 2 and step 5 with a ticket of the intruder's making; gives the latter. At
+/// times its time is too far ahead.
 pub fn made_delivery(walk: &mut Walk, highest_ta: u32) -> Option<StepRecord> {
     let (a, b) = (walk.random.pick(&[1, 4]), walk.random.pick(&[2, 3]));
     let key = walk.random.pick(&[64, 65]);
     let clock = walk.realm.clock;
     let ts = clock.saturating_sub(walk.random.between(0, 1));
-    let ta = clock.saturating_sub(1).saturating_add(walk.random.between(0, highest_ta));
+    let highest = highest_ta.min(walk.realm.settings.authenticator_life.saturating_add(2));
+    let ta = clock.saturating_sub(1).saturating_add(walk.random.between(0, highest));
     make_delivery(walk, Made { a, b, key, ts, ta })
 }
 

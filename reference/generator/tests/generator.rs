@@ -110,7 +110,7 @@ fn cells_are_listed_once() {
 #[test]
 fn refusals_of_steps_are_those_of_the_column() {
     // The column "steps" of the state table, turned round.
-    let column: [(u8, &[u8]); 10] = [
+    let column: [(u8, &[u8]); 11] = [
         (11, &[4, 5, 6, 9]),
         (12, &[7]),
         (13, &[1, 2, 3]),
@@ -121,6 +121,7 @@ fn refusals_of_steps_are_those_of_the_column() {
         (18, &[5]),
         (19, &[5]),
         (20, &[1, 3, 4, 5]),
+        (22, &[5]),
     ];
     for (refusal, steps) in column {
         for step in 1..=10 {

@@ -1,8 +1,10 @@
 //! Tables filled to the last place.
 
+use reference::file::Header;
+
 use super::{
-    asks, exchanged, forgets, leaks, made, made_all, opens, prepared, serves, takes, term, tick,
-    Call,
+    asks, exchanged, exchanged_in, forgets, leaks, made, made_all, opens, prepared, serves, takes,
+    term, tick, Call, HEADER,
 };
 use crate::calls::World;
 use crate::Script;
@@ -50,16 +52,19 @@ pub fn all_terms(script: &mut Script<World>) {
     case("512 terms, step 10 with the last", &full, asks(511));
 }
 
-/// 19, and the last entry. Deliveries are made up and taken, for K has leaked;
-/// run 3 takes one that is prepared behind the terms that there are.
+/// The exchange, and so many entries more. Deliveries are made up and taken, for K
+/// has leaked; their times are 6, 7 and so on, and La is 20.
+pub fn with_entries(more: usize) -> World {
+    let leaked = made(&exchanged_in(Header { authenticator_life: 20, ..HEADER }), leaks(1));
+    (0..more).fold(leaked, |world, _| {
+        let (run, t) = (world.tables.counts.runs as u32, world.tables.counts.terms as u32);
+        made(&prepared(&world), takes(5, run, t + 3))
+    })
+}
+
+/// 19, and the last entry: run 3 takes a delivery that is prepared behind the terms
+/// that there are.
 pub fn all_entries(script: &mut Script<World>) {
-    let with_entries = |more: usize| {
-        let leaked = made(&exchanged(), leaks(1));
-        (0..more).fold(leaked, |world, _| {
-            let (run, t) = (world.tables.counts.runs as u32, world.tables.counts.terms as u32);
-            made(&prepared(&world), takes(5, run, t + 3))
-        })
-    };
     let mut case = |text: &str, world: &World, call: Call| script.case(text, world, call);
     let fifteen = prepared(&with_entries(14));
     case("15 entries, step 5", &fifteen, takes(5, 3, 92));
@@ -68,7 +73,7 @@ pub fn all_entries(script: &mut Script<World>) {
     case("16 entries, step 5", &all, takes(5, 3, 97));
     case("16 entries, step 5 with a delivery again", &all, takes(5, 3, 17));
     case("16 entries, step 8", &all, forgets(2));
-    let later = made(&all, tick(50));
-    case("16 entries, step 8 at clock 50", &later, forgets(2));
+    let later = made(&all, tick(30));
+    case("16 entries, step 8 at clock 30", &later, forgets(2));
     case("step 5 after it", &made(&later, forgets(2)), takes(5, 3, 97));
 }
