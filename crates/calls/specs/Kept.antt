@@ -1,6 +1,6 @@
 -- What the public call leaves as it was and what it answers, from what the call by value does.
 -- Assumes nothing.
-use Prim.Native.Nat.{ℕ}
+use Prim.Native.Nat.{ℕ, _+_, _<_}
 use mathlib.Core.Path.{_≡_, refl, sym, ap, subst, _∙_}
 use mathlib.Core.Bool.{true}
 use mathlib.Core.Logic.{_↔_}
@@ -17,7 +17,7 @@ use Rattle.exchange.specs.Calls.{accepts, Sized}
 use Rattle.traces.specs.Realm.{Realm}
 use Rattle.traces.specs.RuleSets.{Reading}
 use Rattle.traces.specs.Terms.{messageFrom}
-use Rattle.kerberos.specs.Log.{Event, Act}
+use Rattle.kerberos.specs.Log.{Event, Act, clock}
 use Rattle.kerberos.specs.Messages.{parallel}
 use Rattle.kerberos.specs.Rules.{Takes}
 use Rattle.realm.specs.Check.{together}
@@ -25,6 +25,7 @@ use Rattle.realm.specs.Tables.{Tables, Together}
 use Rattle.effects.specs.Apply.{Outcome, refuse}
 use Rattle.effects.specs.Call.{called, checked}
 use Rattle.effects.specs.Promises as effects
+use Rattle.simulation.specs.Ahead.{Passes17}
 use Rattle.simulation.specs.Engine.{Follows}
 use Rattle.simulation.specs.Exact.{Takable}
 use Rattle.simulation.specs.Promises as simulation
@@ -82,6 +83,12 @@ module _ {R : Realm} {t : Tables} {ρ : Reading Event} (f : Follows R t ρ) wher
   underivable-exact step r a b m now =
       subst (λ (x : Answer). (x ≡ Refused 15) ↔ Barred R ρ step m x) (sym (same-answer t (Step step r a b m now) (f .together)))
       (simulation.underivable-exact R t ρ f step r a b m now)
+
+  pub ahead-exact : (r m a b k ts ta : ℕ) → Passes17 R ρ r m a b k ts ta
+      → (lentCall t (Step 5 r 0 0 m 0) .answer ≡ Refused 22) ↔ (clock (ρ .log) + R .authLife < ta)
+  ahead-exact r m a b k ts ta p =
+      subst (λ (x : Answer). (x ≡ Refused 22) ↔ (clock (ρ .log) + R .authLife < ta)) (sym (same-answer t (Step 5 r 0 0 m 0) (f .together)))
+      (simulation.ahead-exact R t ρ f r m a b k ts ta p)
 
 -- ---- what is not read
 

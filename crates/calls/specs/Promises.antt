@@ -17,16 +17,19 @@ use Rattle.traces.specs.Engines.{Agrees}
 use Rattle.traces.specs.RuleSets.{reading}
 use Rattle.traces.specs.Terms.{messageFrom}
 use Rattle.kerberos.specs.Agreement.{Demand3}
-use Rattle.kerberos.specs.Log.{Act}
+use Rattle.kerberos.specs.Entries.{Entries}
+use Rattle.kerberos.specs.Log.{Act, clock}
 use Rattle.kerberos.specs.Messages.{parallel}
 use Rattle.kerberos.specs.Reading.{HD}
 use Rattle.kerberos.specs.Rules.{Takes}
+use Rattle.kerberos.specs.Theorems.{demand3, entries}
 use Rattle.realm.specs.declared.header.Opening.the-variants.{Open}
 use Rattle.realm.specs.declared.header.Realm.{Realm}
 use Rattle.realm.specs.New.{Lends}
 use Rattle.exchange.specs.declared.header.Header.{Header}
 use Rattle.realm.specs.Opening.{header, openingOf}
 use Rattle.realm.specs.Tables.{Tables, Together}
+use Rattle.simulation.specs.Ahead.{Passes17}
 use Rattle.simulation.specs.Engine.{New, opened-new}
 use Rattle.simulation.specs.Exact.{Takable}
 use Rattle.simulation.specs.Told.{stepTold, termTold}
@@ -36,7 +39,7 @@ use Rattle.simulation.specs.Values.{valuesOf}
 use Rattle.calls.specs.Kept as kept
 use Rattle.calls.specs.Lent.{lentCall}
 use Rattle.calls.specs.Lists.{lentAfter, lentHistory}
-use Rattle.calls.specs.Same.{lent-follows, lent-demand3, lent-agrees}
+use Rattle.calls.specs.Same.{lent-follows, lent-lawful, lent-agrees}
 
 -- ---- one call, on any tables
 
@@ -62,7 +65,12 @@ module _ (g : Header) (ls-fits : g .ls < 2 ^ 32) (la-fits : g .la < 2 ^ 32) (h :
 
   -- Demand 3 holds of it,
   pub public-demand3 : Demand3 parallel (header h) (lentHistory t cs)
-  public-demand3 = lent-demand3 (header h) t new cs sized
+  public-demand3 = demand3 parallel (header h) (lentHistory t cs) (lent-lawful (header h) t new cs sized)
+
+  -- each entry of its replay cache is from an acceptance of a time near the clock, and the initiator's own unless the intruder has a key
+  -- for it,
+  pub public-entries : Entries parallel (header h) (lentHistory t cs)
+  public-entries = entries parallel (header h) (lentHistory t cs) (lent-lawful (header h) t new cs sized)
 
   -- and "after each call the runs, the clock and the wire in the tables agree with these readings", and so do terms and cache.
   pub public-agrees : Agrees HD (header h) (valuesOf (lentAfter t cs)) (reading HD (lentHistory t cs))
@@ -93,6 +101,11 @@ module _ (g : Header) (ls-fits : g .ls < 2 ^ 32) (la-fits : g .la < 2 ^ 32) (h :
   pub public-underivable : (step r a b m now : ℕ) → let answer = lentCall (lentAfter t cs) (Step step r a b m now) .answer in
       (answer ≡ Refused 15) ↔ Barred (header h) (reading HD (lentHistory t cs)) step m answer
   public-underivable step r a b m now = kept.underivable-exact (lent-follows (header h) t new cs sized) step r a b m now
+
+  -- 22 is given to a delivery that nothing before it bars exactly where its Ta is above clock + La.
+  pub public-ahead : (r m a b k ts ta : ℕ) → let ρ = reading HD (lentHistory t cs) in
+      Passes17 (header h) ρ r m a b k ts ta → (lentCall (lentAfter t cs) (Step 5 r 0 0 m 0) .answer ≡ Refused 22) ↔ (clock (ρ .log) + header h .authLife < ta)
+  public-ahead r m a b k ts ta p = kept.ahead-exact (lent-follows (header h) t new cs sized) r m a b k ts ta p
 
   -- Its tables never meet 10,
   pub public-never-10 : (c : Call) → ¬ (lentCall (lentAfter t cs) c .answer ≡ Refused 10)

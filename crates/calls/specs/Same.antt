@@ -8,14 +8,13 @@ use Rattle.traces.specs.Engines.{Agrees, after, history}
 use Rattle.traces.specs.Laws.Histories.{fits}
 use Rattle.traces.specs.Realm.{Realm}
 use Rattle.traces.specs.RuleSets.{History, reading}
-use Rattle.kerberos.specs.Agreement.{Demand3}
 use Rattle.kerberos.specs.Messages.{parallel}
-use Rattle.kerberos.specs.Reading.{HD}
+use Rattle.kerberos.specs.Reading.{HD, Lawful}
 use Rattle.realm.specs.Tables.{Tables, Together}
 use Rattle.effects.specs.Apply.{Outcome}
 use Rattle.effects.specs.Call.{called}
 use Rattle.simulation.specs.Engine.{New, Follows, engineOf}
-use Rattle.simulation.specs.Promises.{demand3, ten-unmet}
+use Rattle.simulation.specs.Promises.{lawful-calls, ten-unmet}
 use Rattle.simulation.specs.Values.{valuesOf}
 use Rattle.calls.specs.Lent.{lentCall, lent-checked}
 use Rattle.calls.specs.Lists.{lentAfter, lentHistory}
@@ -48,8 +47,8 @@ module _ (R : Realm) (t : Tables) (new : New R t) where
       subst (λ (s : Tables). Follows R s (reading HD (lentHistory t cs))) (sym (same-after cs size))
       (subst (λ (p : History). Follows R (after HD R (engineOf R t new) cs) (reading HD p)) (sym (same-history cs size)) (fits HD R (engineOf R t new) cs size))
 
-  pub lent-demand3 : (cs : List Call) → AllSized cs → Demand3 parallel R (lentHistory t cs)
-  lent-demand3 cs size = subst (Demand3 parallel R) (sym (same-history cs size)) (demand3 R t new cs size)
+  pub lent-lawful : (cs : List Call) → AllSized cs → Lawful parallel R (lentHistory t cs)
+  lent-lawful cs size = subst (Lawful parallel R) (sym (same-history cs size)) (lawful-calls R t new cs size)
 
   pub lent-agrees : (cs : List Call) → AllSized cs → Agrees HD R (valuesOf (lentAfter t cs)) (reading HD (lentHistory t cs))
   lent-agrees cs size = lent-follows cs size .agrees

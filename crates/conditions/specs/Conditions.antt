@@ -2,8 +2,8 @@
 -- Assumes nothing.
 use Prim.Native.Nat.{ℕ, _+_, _<_}
 use mathlib.Core.Bool.{Bool, not, cond}
-use mathlib.Core.List.{List}
-use lib.Dec.{ltb}
+use mathlib.Core.List.{List, [], _∷_}
+use lib.Dec.{ltb, leb}
 use Rattle.marks.specs.Marks.{Words}
 use Rattle.terms.specs.Valid.{Valid}
 use Rattle.synthesis.specs.Test.{derivableOf}
@@ -29,9 +29,19 @@ ticketLives h ts = ltb (h .clock) (ts + h .ls)
 abbrev pub authenticatorLives : Realm → ℕ → Bool
 authenticatorLives h ta = ltb (h .clock) (ta + h .la)
 
--- 0, or the number of the refusal: 16, 17, then 18 and 19 of the cache
+-- not "a Ta above clock + La" (02, change 5)
+abbrev pub notAhead : Realm → ℕ → Bool
+notAhead h ta = leb ta (h .clock + h .la)
+
+-- 0, or the number of the first refusal that applies. Here alone the order is not that of the numbers: "22 for such a Ta, after 17
+-- and before 18" (02, change 5)
 unfoldable pub admission : Realm → List Entry → (ts : ℕ) → Entry → ℕ
 admission h cache ts e =
     cond (not (ticketLives h ts)) 16
     (cond (not (authenticatorLives h (e .ta))) 17
-    (cacheRefusal cache (h .entries) e))
+    (cond (not (notAhead h (e .ta))) 22
+    (cacheRefusal cache (h .entries) e)))
+
+-- the numbers that it can be
+abbrev pub admissionRefusals : List ℕ
+admissionRefusals = 16 ∷ 17 ∷ 22 ∷ 18 ∷ 19 ∷ []

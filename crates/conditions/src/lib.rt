@@ -6,11 +6,13 @@ use replay::entry::Entry;
 use synthesis::compose::derivable;
 ghost use mathlib.Core.Path.{_≡_};
 ghost use Prim.Native.Nat.{_≤_};
-ghost use Rattle.conditions.specs.Conditions.{Askable, derivableAt, ticketLives, authenticatorLives, admission};
+ghost use Rattle.conditions.specs.Conditions.{Askable, derivableAt, ticketLives, authenticatorLives, notAhead, admission};
 
 pub const REFUSE_TICKET: u8 = 16;
 
 pub const REFUSE_AUTHENTICATOR: u8 = 17;
+
+pub const REFUSE_AHEAD: u8 = 22;
 
 // Whether the intruder can derive term m.
 pub fn can_deliver(h: Realm, terms: &[u64], wire: &[u64], m: u16) -> bool
@@ -38,7 +40,14 @@ pub fn authenticator_lives(h: Realm, ta: u32) -> bool
     (h.clock as u64) < (ta as u64) + (h.la as u64)
 }
 
-// 0 where the lives and the replay cache let a delivery pass, else the number of the refusal.
+// Whether an authenticator's time is at most La ahead of the clock.
+pub fn not_ahead(h: Realm, ta: u32) -> bool
+    ensures { λ r. ⌜ r ≡ notAhead h ta ⌝ }
+{
+    (ta as u64) <= (h.clock as u64) + (h.la as u64)
+}
+
+// 0 where the times and the replay cache let a delivery pass, else the number of the refusal.
 pub fn admit(h: Realm, cache: [Entry; 16], ts: u32, e: Entry) -> u8
     requires { ⌜ h .entries ≤ 16 ⌝ }
     ensures { λ r. ⌜ r ≡ admission h cache ts e ⌝ }
@@ -48,6 +57,9 @@ pub fn admit(h: Realm, cache: [Entry; 16], ts: u32, e: Entry) -> u8
     }
     if !authenticator_lives(h, e.ta) {
         return REFUSE_AUTHENTICATOR;
+    }
+    if !not_ahead(h, e.ta) {
+        return REFUSE_AHEAD;
     }
     refusal(cache, h.entries, e)
 }

@@ -1,6 +1,7 @@
 -- What a step comes to (document 01, "Steps" and the two tables of refusals), decided whole before anything is written: its effect,
 -- or the number of its refusal. "Refusal 10 is looked at first, the others in rising order; the first that applies is given": 10 is
--- the checked calls'; 4 to 6 are of the fields; then the row of the step table has its own, in rising order; 20 comes last.
+-- the checked calls'; 4 to 6 are of the fields; then the row of the step table has its own, in rising order but for step 5's 22, whose
+-- place is in `conditions/Conditions.admission`; 20 comes last.
 -- Assumes nothing.
 use Prim.Native.Nat.{ℕ}
 use mathlib.Core.Bool.{Bool, not, _&&_, cond}

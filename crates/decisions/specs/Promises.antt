@@ -24,9 +24,11 @@ use Rattle.decisions.specs.Laws.Verdict as verdicts
 use Rattle.decisions.specs.Refusals.{refusalsOf, allOf}
 -- ---- laws passed on
 
--- "remember then 18 or 19 as in step 5": a delivery that none of 4 to 17 bars is refused with the number that `remember` of b, K
--- and Ta answers, and taken where it answers none
+-- "remember then 18 or 19 as in step 5": a delivery that none of 4 to 17 bars, nor 22, is refused with the number that `remember` of b,
+-- K and Ta answers, and taken where it answers none
 pub use Rattle.decisions.specs.Laws.Exact.{remembers, delivered}
+-- "22 for such a Ta, after 17 and before 18": a delivery that none of 4 to 17 bars has it exactly where its Ta is above clock + La
+pub use Rattle.decisions.specs.Laws.Exact.{ahead-exact}
 -- the fields of a step are looked at first
 pub use Rattle.decisions.specs.Laws.Refusals.{fields-refuse}
 

@@ -3,6 +3,7 @@
 use Prim.Native.Nat.{ℕ}
 use mathlib.Core.List.{List, [], _∷_}
 use lib.ListN.{getD}
+use Rattle.conditions.specs.Conditions.{admissionRefusals}
 
 -- "steps", the last column, turned round: by the step's number, from 0 on; 20 apart
 abbrev pub refusalsOf : ℕ → List ℕ
@@ -12,7 +13,7 @@ refusalsOf step = getD (
     ∷ (13 ∷ [])
     ∷ (13 ∷ 14 ∷ 15 ∷ [])
     ∷ (11 ∷ 14 ∷ 15 ∷ 16 ∷ [])
-    ∷ (11 ∷ 14 ∷ 15 ∷ 16 ∷ 17 ∷ 18 ∷ 19 ∷ [])
+    ∷ (11 ∷ 14 ∷ 15 ∷ admissionRefusals)
     ∷ (11 ∷ 14 ∷ 15 ∷ 16 ∷ [])
     ∷ (12 ∷ [])
     ∷ []

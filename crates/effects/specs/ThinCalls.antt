@@ -29,7 +29,7 @@ use Rattle.decisions.specs.declared.Effect.{Effect}
 use Rattle.decisions.specs.declared.Verdict.{Verdict}
 use Rattle.decisions.specs.declared.Verdict.the-variants.{Takes, Refused}
 use Rattle.decisions.specs.Decision.{need, roomed, decision}
-use Rattle.decisions.specs.Laws.Took.{rowAt, Meets, Brings, Took, TookAs, took5, took8}
+use Rattle.decisions.specs.Laws.Took.{rowAt, Meets, Brings, Timely, Took, TookAs, took5, took8}
 use Rattle.decisions.specs.Laws.Verdict.{decision-takes}
 use Rattle.decisions.specs.Promises.{taken-as, remembers, delivered}
 use Rattle.effects.specs.Apply.{applied}
@@ -89,16 +89,16 @@ module _ (t : Tables) (w : Together t) where
     unfolding called stepped
     step-8-forgets = by-effect (fields 8) _ (decision t (fields 8)) refl (λ x k. took-forgets (k .took))
 
-  -- "18 | b, K, Ta is in the cache", "19 | the cache holds 16 entries": a delivery that none of 4 to 17 bars has the number that
-  -- `remember` of b, K and Ta answers, where it answers one
+  -- "18 | b, K, Ta is in the cache", "19 | the cache holds 16 entries": a delivery that none of 4 to 17 bars, nor 22, has the number
+  -- that `remember` of b, K and Ta answers, where it answers one
   pub step-5-refuses : (r m k ts ta : ℕ) → Meets t r Responder Opened → Brings t m (pair (ticket k (rowAt t r .a) ts (rowAt t r .b)) (authenticator (rowAt t r .a) ta k))
-      → t .realm .clock < ts + t .realm .ls → t .realm .clock < ta + t .realm .la → let number = remembers t w (rowAt t r .b) k ta in
+      → Timely t ts ta → let number = remembers t w (rowAt t r .b) k ta in
       number ≢ 0 → called t (calls.Step 5 r 0 0 m 0) .answer ≡ answers.Refused number
   unfolding called decision
-  step-5-refuses r m k ts ta v d l o n =
+  step-5-refuses r m k ts ta v d l n =
       let number = remembers t w (rowAt t r .b) k ta in
       let s : Step = record { step = 5; run = r; a = 0; b = 0; m = m; t = 0 } in
-      step-refused t s .1 (ap (roomed t) (delivered t w r m k ts ta v d l o ∙ barred number _ n))
+      step-refused t s .1 (ap (roomed t) (delivered t w r m k ts ta v d l ∙ barred number _ n))
     where
       barred : (number : ℕ) (v : Verdict) → number ≢ 0 → need (eqb number 0) number v ≡ Refused number
       barred number v n = rw (ne-eqb number 0 n)

@@ -2,7 +2,7 @@
 -- points of the list of calls; what is so at a point is read from the calls and answers up to it. "Ever" is at any point, before
 -- the acceptance or after it.
 -- Assumes nothing.
-use Prim.Native.Nat.{ℕ, _+_, _<_}
+use Prim.Native.Nat.{ℕ, _+_, _<_, _≤_}
 use mathlib.Core.Path.{_≡_}
 use mathlib.Core.Logic.{_⊎_}
 use Rattle.terms.specs.Message.{session, key}
@@ -25,8 +25,8 @@ module _ (f : Form) where
     pub acceptor : Responder (log acc) r A B
     -- The key is a server's key: a condition of the demand that need not be asked for.
     pub server's : ServersKey (log acc) k
-    -- The ticket and the authenticator were live.
-    pub live : (clock (log acc) < ts + R .ticketLife) × (clock (log acc) < ta + R .authLife)
+    -- The ticket was live, and "a delivery taken has a Ta above clock - La and at most clock + La" (02, change 5).
+    pub live : (clock (log acc) < ts + R .ticketLife) × (clock (log acc) < ta + R .authLife) × (ta ≤ clock (log acc) + R .authLife)
     -- From that step to the end exactly one initiator run of A meant for B has the three values:
     pub partner : ℕ
     pub one : (p : History) → acc ⊑ p → p ⊑ h → Initiator (log p) partner A B × Has (log p) partner k ts ta

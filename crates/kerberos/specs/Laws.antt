@@ -8,4 +8,5 @@ pub mod Sound
 pub mod Taken
 pub mod Acceptance
 pub mod Histories
+pub mod Entries
 pub mod Needs

@@ -6,5 +6,6 @@ pub mod Rules
 pub mod Reading
 pub mod Words
 pub mod Agreement
+pub mod Entries
 pub mod Examples
 pub mod Laws

@@ -29,6 +29,10 @@ TicketLives R l ts = clock l < ts + R .ticketLife
 abbrev pub AuthenticatorLives : Realm → Log → (ta : ℕ) → Type 0
 AuthenticatorLives R l ta = clock l < ta + R .authLife
 
+-- not "a Ta above clock + La" (02, change 5)
+abbrev pub NotAhead : Realm → Log → (ta : ℕ) → Type 0
+NotAhead R l ta = ta ≤ clock l + R .authLife
+
 -- "At most 64 runs"
 abbrev pub RunFits : Log → Type 0
 RunFits l = next l < 64
@@ -79,6 +83,7 @@ pub data Takes (f : Form) (R : Realm) (terms : List Message) (l : Log) : Call �
       → Delivers R terms l m (pair (ticket k a ts b) (authenticator a ta k))
       → TicketLives R l ts
       → AuthenticatorLives R l ta
+      → NotAhead R l ta
       → ¬ (entry b k ta ∈ cache R l)
       → CacheFits R l
       → TermsFit (confirmation ta k ∷ []) terms

@@ -1,7 +1,7 @@
 -- What this crate promises. The definitions that it is stated in, in reading order: Messages (with the forms), Log and Rules (what
--- the steps mean), Reading and Words (how a list of calls with its answers is read), Agreement (the claim). Examples shows that
--- the claim is not empty and that its conditions are needed; proofs are in Laws, and what is argued for a form singly is in
--- Laws/Forms.
+-- the steps mean), Reading and Words (how a list of calls with its answers is read), Agreement (the claim), Entries (who fills the
+-- replay cache). Examples shows that the claim is not empty and that its conditions are needed; proofs are in Laws, and what is
+-- argued for a form singly is in Laws/Forms.
 -- Assumes nothing.
 use Prim.Native.Nat.{ℕ}
 use mathlib.Core.Path.{_≡_}
@@ -22,6 +22,8 @@ use Rattle.kerberos.specs.Log.{Event, Act, Log, Run, run, stored}
 use Rattle.kerberos.specs.Rules.{Takes}
 use Rattle.kerberos.specs.Reading.{rules, actOf, Lawful}
 use Rattle.kerberos.specs.Agreement.{Demand3}
+use Rattle.kerberos.specs.Entries.{Entries}
+use Rattle.kerberos.specs.Laws.Entries.{entered}
 use Rattle.kerberos.specs.Laws.Histories.{agreement, taken-read}
 use Rattle.kerberos.specs.Laws.Needs.{takes-met}
 
@@ -29,9 +31,14 @@ use Rattle.kerberos.specs.Laws.Needs.{takes-met}
 pub demand3 : (f : Form) (R : Realm) (h : History) → Lawful f R h → Demand3 f R h
 demand3 f R h w = agreement w
 
--- So it holds of an engine, for every header that refusal 2 lets pass and every list of calls.
-pub engine-demand3 : (f : Form) (R : Realm) → HeaderPasses R → (E : Engine (rules f) R) (cs : List Call) → AllSized cs → Demand3 f R (history (rules f) R E cs)
-engine-demand3 f R header E cs z = agreement (lawful (rules f) R E header cs z)
+-- Each entry of the replay cache comes from an acceptance of a time near the clock, and is the initiator's own unless the intruder has
+-- a key for it.
+pub entries : (f : Form) (R : Realm) (h : History) → Lawful f R h → Entries f R h
+entries f R h w = entered w
+
+-- Both hold of an engine, for every header that refusal 2 lets pass and every list of calls: its list is such a one.
+pub engine-lawful : (f : Form) (R : Realm) → HeaderPasses R → (E : Engine (rules f) R) (cs : List Call) → AllSized cs → Lawful f R (history (rules f) R E cs)
+engine-lawful f R header E cs z = lawful (rules f) R E header cs z
 
 -- Rules and reading agree: a call is read as what the rules take it for.
 pub rules-read : {f : Form} {R : Realm} (ρ : Reading Event) {c : Call} {a : Act} → Takes f R (ρ .terms) (ρ .log) c a → actOf f c ρ ≡ a

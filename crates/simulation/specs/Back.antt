@@ -74,11 +74,11 @@ listed (y ∷ xs) zero e = record { below = omega arith; is = ap (λ (x : Run). 
 listed (y ∷ xs) (suc r) e = let f = listed xs r e in record { below = omega (arith, f .below); is = f .is }
 
 -- run r of the tables is there, with this row
-record Stands (t : Tables) (r : ℕ) (own : Row) : Type 0 where
-  below : r < t .realm .runs
-  is : rowAt t r ≡ own
+pub record Stands (t : Tables) (r : ℕ) (own : Row) : Type 0 where
+  pub below : r < t .realm .runs
+  pub is : rowAt t r ≡ own
 
-meets : {t : Tables} {r : ℕ} {own : Row} {role : Role} {stage : Stage} → Stands t r own → isAt own role stage ≡ true → Meets t r role stage
+pub meets : {t : Tables} {r : ℕ} {own : Row} {role : Role} {stage : Stage} → Stands t r own → isAt own role stage ≡ true → Meets t r role stage
 meets {role = role} {stage = stage} s h = record { below = s .below; at = ap (λ (x : Row). isAt x role stage) (s .is) ∙ h }
 
 -- ---- the acts, with the run's values as its row has them, and the clock and the number of the next run as the tables have them
@@ -120,7 +120,7 @@ module _ (t : Tables) (ρ : Reading Event) (fits : Together t) (g : Agrees HD (h
       let p = at-meanings (t .terms) (t .realm .terms) m x (ap (λ (ms : List Message). termAt ms m) (g .terms-are) ∙ d .form) in
       record { below = p .0; is = p .1; derivable = monotone (λ y k. g .wire-is y .1 k) (d .derivable) }
 
-  stands : {r : ℕ} {x : Run} → run (ρ .log) r ≡ some x → Stands t r (stored x)
+  pub stands : {r : ℕ} {x : Run} → run (ρ .log) r ≡ some x → Stands t r (stored x)
   stands {r} e =
       let f = listed (runs (ρ .log)) r e in
       let h : r < t .realm .runs = omega (arith, f .below, next-is t ρ fits g) in
@@ -140,12 +140,15 @@ module _ (t : Tables) (ρ : Reading Event) (fits : Together t) (g : Agrees HD (h
   takes-took (takes4 {a = a} {b = b} e d q i f) =
       let s = stands e in
       by4 (stored (initiatorOpened a b)) (clock (ρ .log)) (s .is) (g .clock-is) (meets s refl) (brings d) q i
-  takes-took (takes5 {a = a} {b = b} e d i j n room f) =
+  takes-took (takes5 {a = a} {b = b} e d i j near n room f) =
       let s = stands e in
       by5 (stored (responderOpened a b)) (s .is) (meets s refl) (brings d)
       (record {
-        ticket-lives = omega (arith, g .clock-is, i);
-        authenticator-lives = omega (arith, g .clock-is, j);
+        timely = record {
+          ticket-lives = omega (arith, g .clock-is, i);
+          authenticator-lives = omega (arith, g .clock-is, j);
+          not-ahead = omega (arith, g .clock-is, near);
+        };
         absent = absent n;
         room = omega (arith, cache-length t ρ fits g, room);
       })
@@ -181,7 +184,7 @@ module _ (t : Tables) (ρ : Reading Event) (fits : Together t) (g : Agrees HD (h
   takes-fits (takes2 i p room) = none-fit
   takes-fits (takes3 d p room f) = f
   takes-fits (takes4 e d q i f) = f
-  takes-fits (takes5 e d i j n room f) = f
+  takes-fits (takes5 e d i j near n room f) = f
   takes-fits (takes6 e d i) = none-fit
   takes-fits (takes7 i) = none-fit
   takes-fits (takes8 i) = none-fit

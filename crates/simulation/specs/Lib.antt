@@ -19,4 +19,5 @@ pub mod Unread
 pub mod Told
 pub mod Exact
 pub mod Underivable
+pub mod Ahead
 pub mod Cases

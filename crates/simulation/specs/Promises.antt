@@ -3,9 +3,9 @@
 -- paper's lettered cases). How it is shown: Rules (what a step that is taken has met is what the rules ask for), Mirrors (an effect
 -- beside an event), Follows (of writing an effect, over Runs, Entries and Wire), Terms (of adding a term), Taken (of a step) and
 -- Kept (of a call). The way back, from the rules to the tables, is Back and TermsBack; both ways together are Exact, with what
--- an answer tells from Told, and of refusal 15 Underivable. Unread is about places past the counts.
+-- an answer tells from Told, and of refusals 15 and 22 Underivable and Ahead. Unread is about places past the counts.
 -- Assumes nothing.
-use Prim.Native.Nat.{ℕ}
+use Prim.Native.Nat.{ℕ, _+_, _<_}
 use mathlib.Core.Path.{_≡_, subst}
 use mathlib.Core.Bool.{true}
 use mathlib.Core.List.{List, map}
@@ -23,14 +23,18 @@ use Rattle.traces.specs.Realm.{Realm, HeaderPasses}
 use Rattle.traces.specs.RuleSets.{Reading, reading}
 use Rattle.traces.specs.Terms.{messageFrom}
 use Rattle.kerberos.specs.Agreement.{Demand3}
-use Rattle.kerberos.specs.Log.{Event, Act}
+use Rattle.kerberos.specs.Entries.{Entries}
+use Rattle.kerberos.specs.Log.{Event, Act, clock}
 use Rattle.kerberos.specs.Messages.{parallel}
-use Rattle.kerberos.specs.Reading.{HD}
+use Rattle.kerberos.specs.Reading.{HD, Lawful}
 use Rattle.kerberos.specs.Rules.{Takes}
-use Rattle.kerberos.specs.Theorems.{engine-demand3}
+use Rattle.kerberos.specs.Theorems as kerberos
+use Rattle.kerberos.specs.Theorems.{engine-lawful}
 use Rattle.realm.specs.Check.{together, is-together}
 use Rattle.realm.specs.Tables.{Tables, Together}
 use Rattle.effects.specs.Call.{called, checked}
+use Rattle.simulation.specs.Ahead as ahead
+use Rattle.simulation.specs.Ahead.{Passes17}
 use Rattle.simulation.specs.Cases.{play, table, cases, cases-start}
 use Rattle.simulation.specs.Engine.{New, Follows, engineOf}
 use Rattle.simulation.specs.Exact as exact
@@ -43,10 +47,17 @@ use Rattle.simulation.specs.Underivable.{Barred}
 use Rattle.simulation.specs.Unread.{Alike, answers-alike, tables-alike}
 use Rattle.simulation.specs.Values.{valuesOf}
 
--- Demand 3 holds of every list of calls, each with any fields, from a new realm under any header that refusal 2 lets pass.
+-- In every list of calls, each with any fields, from a new realm under any header that refusal 2 lets pass, each accepted call is one
+-- that the rules take. So demand 3 holds of it, and what is promised of the entries of the replay cache.
+pub lawful-calls : (R : Realm) (t : Tables) (new : New R t) (cs : List Call) → AllSized cs → Lawful parallel R (history HD R (engineOf R t new) cs)
+lawful-calls R t new cs size =
+    engine-lawful parallel R (subst HeaderPasses (new .header-is) (new .together .header-fits)) (engineOf R t new) cs size
+
 pub demand3 : (R : Realm) (t : Tables) (new : New R t) (cs : List Call) → AllSized cs → Demand3 parallel R (history HD R (engineOf R t new) cs)
-demand3 R t new cs size =
-    engine-demand3 parallel R (subst HeaderPasses (new .header-is) (new .together .header-fits)) (engineOf R t new) cs size
+demand3 R t new cs size = kerberos.demand3 parallel R (history HD R (engineOf R t new) cs) (lawful-calls R t new cs size)
+
+pub entries : (R : Realm) (t : Tables) (new : New R t) (cs : List Call) → AllSized cs → Entries parallel R (history HD R (engineOf R t new) cs)
+entries R t new cs size = kerberos.entries parallel R (history HD R (engineOf R t new) cs) (lawful-calls R t new cs size)
 
 -- "After each call the runs, the clock and the wire in the tables agree with these readings", and so do terms and cache.
 pub tables-follow : (R : Realm) (t : Tables) (new : New R t) (cs : List Call) → AllSized cs
@@ -74,6 +85,11 @@ terms-grow R t ρ f c size = told.terms-grow f c size
 pub underivable-exact : (R : Realm) (t : Tables) (ρ : Reading Event) → Follows R t ρ → (step r a b m now : ℕ)
     → let answer = called t (Step step r a b m now) .answer in (answer ≡ Refused 15) ↔ Barred R ρ step m answer
 underivable-exact R t ρ f step r a b m now = underivable.underivable-exact t ρ f step r a b m now
+
+-- "22 for such a Ta, after 17 and before 18": a delivery that nothing before it bars has it exactly where its Ta is above clock + La.
+pub ahead-exact : (R : Realm) (t : Tables) (ρ : Reading Event) → Follows R t ρ → (r m a b k ts ta : ℕ) → Passes17 R ρ r m a b k ts ta
+    → (called t (Step 5 r 0 0 m 0) .answer ≡ Refused 22) ↔ (clock (ρ .log) + R .authLife < ta)
+ahead-exact R t ρ f r m a b k ts ta p = ahead.ahead-exact t ρ f r m a b k ts ta p
 
 -- "10 is met only by a library caller": on tables that hold together the checked call is the call.
 pub ten-unmet : (t : Tables) (c : Call) → Together t → checked t c ≡ called t c

@@ -130,8 +130,8 @@ module _ (t : Tables) (ρ : Reading Event) (fits : Together t) (g : Agrees HD (h
   taken (took4 w d i) f =
       by4 (t .realm .clock) (g .clock-is) (from-log w .is ∙ ap some (opened-initiator _ (at-log w) (from-log w .as-row))) (delivers d) i f
   taken (took5 w d i) f =
-      takes5 (from-log w .is ∙ ap some (opened-responder _ (at-log w) (from-log w .as-row))) (delivers d) (omega (arith, g .clock-is, i .ticket-lives))
-      (omega (arith, g .clock-is, i .authenticator-lives)) (not-cached (i .absent)) (omega (arith, cache-length, i .room)) f
+      takes5 (from-log w .is ∙ ap some (opened-responder _ (at-log w) (from-log w .as-row))) (delivers d) (omega (arith, g .clock-is, i .timely .ticket-lives))
+      (omega (arith, g .clock-is, i .timely .authenticator-lives)) (omega (arith, g .clock-is, i .timely .not-ahead)) (not-cached (i .absent)) (omega (arith, cache-length, i .room)) f
   taken (took6 w d i) f =
       takes6 (from-log w .is ∙ ap some (authenticated _ (at-log w) (from-log w .as-row))) (delivers d) (omega (arith, g .clock-is, i))
   taken (took7 {now} h) f = takes7 {t = now} (omega (arith, g .clock-is, h))

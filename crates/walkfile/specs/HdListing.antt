@@ -1,5 +1,5 @@
 -- "An HD file gives the same listing as before, and its 16 flags are the low ones" (document 02, change 2): that of document 01, whose
--- lines end as change 3 says.
+-- lines end as change 3 says and whose step 5 has the refusal of change 5.
 -- Assumes nothing.
 use Prim.Native.Nat.{ℕ, _<_, _≤_}
 use mathlib.Core.Bool.{Bool, true, false, cond}

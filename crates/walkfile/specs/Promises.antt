@@ -8,6 +8,7 @@ use mathlib.Core.List.{List, _++_}
 use lib.ListN.{length, drop}
 use Rattle.exchange.specs.declared.call.Call.{Call}
 use Rattle.kerberos.specs.Agreement.{Demand3}
+use Rattle.kerberos.specs.Entries.{Entries}
 use Rattle.kerberos.specs.Messages.{parallel}
 use Rattle.kerberos.specs.Reading.{HD}
 use Rattle.exchange.specs.Calls.{AllSized}
@@ -25,7 +26,7 @@ use Rattle.realm.specs.declared.header.Realm.{Realm}
 use Rattle.realm.specs.Opening.{header, openingOf}
 use Rattle.simulation.specs.Values.{valuesOf}
 use Rattle.simulation.specs.Engine.{New, engineOf}
-use Rattle.simulation.specs.Promises.{demand3, tables-follow}
+use Rattle.simulation.specs.Promises.{demand3, entries, tables-follow}
 use Rattle.walkfile.specs.Listing.{newTables, lastLines, walkLines, listingOf}
 use Rattle.walkfile.specs.Opened.{opened-new}
 use Rattle.walkfile.specs.Traced.{newestFirst, newest-sized, lines-traced}
@@ -39,7 +40,8 @@ pub use Rattle.walkfile.specs.Buffer.{short-kept, start-is, rest-kept, c
 -- a file that refusal 1 or 2 turns away has one line, and case F has the paper's
 pub use Rattle.walkfile.specs.Ways.{header-refused, opening-refused}
 pub use Rattle.walkfile.specs.CaseF.{printed}
--- a file that begins with no other mark than HD has the listing of document 01, whose lines end as change 3 says, whatever its bytes
+-- a file that begins with no other mark than HD has the listing of document 01, whose lines end as change 3 says and whose step 5 has the
+-- refusal of change 5, whatever its bytes
 pub use Rattle.walkfile.specs.HdListing.{listed-as-before}
 
 -- ---- the list of calls
@@ -70,6 +72,11 @@ module _ (bytes : List ℕ) (h : Realm) (o : HeaderOpens bytes h) where
   -- Demand 3 holds of its calls,
   pub walk-demand3 : Demand3 parallel (header h) (history HD (header h) (engineOf (header h) (newTables h) new) calls)
   walk-demand3 = demand3 (header h) (newTables h) new calls sized
+
+  -- each entry of its replay cache is from an acceptance of a time near the clock, and the initiator's own unless the intruder has a key
+  -- for it,
+  pub walk-entries : Entries parallel (header h) (history HD (header h) (engineOf (header h) (newTables h) new) calls)
+  walk-entries = entries (header h) (newTables h) new calls sized
 
   -- its tables agree with what is read of them,
   pub walk-agrees : Agrees HD (header h) (valuesOf (after HD (header h) (engineOf (header h) (newTables h) new) calls))

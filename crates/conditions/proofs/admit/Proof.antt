@@ -2,8 +2,8 @@
 use mathlib.Core.Bool.{true}
 use mathlib.Core.Path.{_≡_, sym, _∙_}
 use borrow.Author.Tests.{not-true, not-false}
-use Rattle.conditions.specs.Conditions.{ticketLives, authenticatorLives}
-use Rattle.conditions.specs.Laws.{ticket-over, authenticator-over, by-cache}
+use Rattle.conditions.specs.Conditions.{ticketLives, authenticatorLives, notAhead}
+use Rattle.conditions.specs.Laws.{ticket-over, authenticator-over, too-far-ahead, by-cache}
 use borrow.Author.Needs.{needs}
 use Rattle.conditions.proofs.admit.Statement.{statement}
 use Rattle.conditions.proofs.admit.Tie as tie
@@ -15,6 +15,9 @@ ticket c = sym (c .before .ticket-lives .ensures) ∙ not-false _ (c .if1 .left)
 
 authenticator : (c : tie.Else2) → let a = c .before .before .before .before .args in authenticatorLives (a .h) (a .e .ta) ≡ true
 authenticator c = sym (c .before .authenticator-lives .ensures) ∙ not-false _ (c .if2 .left)
+
+near : (c : tie.Else3) → let a = c .before .before .before .before .before .before .args in notAhead (a .h) (a .e .ta) ≡ true
+near c = sym (c .before .not-ahead .ensures) ∙ not-false _ (c .if3 .left)
 
 -- ---- the needs
 
@@ -29,9 +32,16 @@ returns-2 c =
 
 returns-3 : tie.Need-returns-3
 returns-3 c =
-    let e = c .before in
+    let e = c .before .before in
     let a = e .before .before .before .before .args in
-    c .refusal .ensures ∙ by-cache (a .h) (a .cache) (a .ts) (a .e) (ticket (e .before .before)) (authenticator e)
+    too-far-ahead (a .h) (a .cache) (a .ts) (a .e) (ticket (e .before .before)) (authenticator e) (sym (c .before .not-ahead .ensures) ∙ not-true _ (c .if3 .taken))
+
+returns-4 : tie.Need-returns-4
+returns-4 c =
+    let n = c .before in
+    let e = n .before .before in
+    let a = e .before .before .before .before .args in
+    c .refusal .ensures ∙ by-cache (a .h) (a .cache) (a .ts) (a .e) (ticket (e .before .before)) (authenticator e) (near n)
 
 pub admit-spec : {M : Type 1} → statement M
-admit-spec = tie.close (tie.spec (λ c κs. search needs) returns (λ c κs. search needs) returns-2 (λ c κs. search needs) returns-3)
+admit-spec = tie.close (tie.spec (λ c κs. search needs) returns (λ c κs. search needs) returns-2 (λ c κs. search needs) returns-3 (λ c κs. search needs) returns-4)

@@ -3,8 +3,9 @@
 use Prim.Native.Nat.{ℕ, _+_, _<_, _≤_}
 use mathlib.Core.Path.{_≡_, refl, sym, _∙_, ap, subst}
 use mathlib.Core.Bool.{Bool, true, false, not, _&&_, _||_}
+use mathlib.Core.Logic.{_↔_}
 use native.Mathlib.Omega.{arith}
-use borrow.Author.Tests.{lt-ltb, le-leb, eq-eqb, ne-eqb}
+use borrow.Author.Tests.{lt-ltb, leb-false, le-leb, lt-leb, eq-eqb, ne-eqb}
 use lib.Dec.{ltb, leb, eqb}
 use Rattle.terms.specs.Choice.{Decides}
 use Rattle.terms.specs.Meaning.{messageAt}
@@ -12,6 +13,7 @@ use Rattle.terms.specs.Message.{Message, pair}
 use Rattle.deduction.specs.Derives.{Derives}
 use Rattle.deduction.specs.Known.{Known}
 use Rattle.synthesis.specs.Promises.{function-exact}
+use Rattle.sending.specs.Send.{fitsIn}
 use Rattle.forms.specs.Promises.{is-request, is-reply, is-confirmation, is-delivery}
 use Rattle.runs.specs.Lent.{PrincipalsFit, principalsFit}
 use Rattle.runs.specs.Promises.{principals-decided}
@@ -33,15 +35,15 @@ use Rattle.replay.specs.Cache.{fits as fitting}
 use Rattle.replay.specs.Cache.Calls.{fits-is, refusal-none}
 use Rattle.replay.specs.Promises.{remember-number}
 use Rattle.replay.specs.declared.entry.Entry.{Entry}
-use Rattle.conditions.specs.Conditions.{derivableAt, ticketLives}
-use Rattle.conditions.specs.Promises.{admission-remembers}
+use Rattle.conditions.specs.Conditions.{derivableAt, ticketLives, admission}
+use Rattle.conditions.specs.Promises.{admission-ahead, admission-remembers}
 use Rattle.decisions.specs.declared.Effect.{Effect}
 use Rattle.decisions.specs.declared.Verdict.{Verdict}
-use Rattle.decisions.specs.declared.Verdict.the-variants.{Takes}
-use Rattle.decisions.specs.Effects.{issuing, authenticating, accepting, finishing}
+use Rattle.decisions.specs.declared.Verdict.the-variants.{Takes, Refused}
+use Rattle.decisions.specs.Effects.{issuing, authenticating, accepting, finishing, messagesOf}
 use Rattle.decisions.specs.Decision.{need, onRequest, issues, onReply, authenticates, onDelivery, takes, onConfirmation, finishes}
-use Rattle.decisions.specs.Decision.{opensRun, ticks, queries, stepOf, decided}
-use Rattle.decisions.specs.Laws.Took.{rowAt, Meets, Brings, Admits, Took, took1, took2, took3, took4, took5, took6, took7, took8, took9, took10}
+use Rattle.decisions.specs.Decision.{opensRun, ticks, queries, stepOf, decided, roomed, decision}
+use Rattle.decisions.specs.Laws.Took.{rowAt, Meets, Brings, Timely, Admits, Took, took1, took2, took3, took4, took5, took6, took7, took8, took9, took10}
 
 -- ---- conditions that are met
 
@@ -129,18 +131,19 @@ module _ (t : Tables) (fits : Together t) where
       own : (b a : ℕ) → (eqb b b && eqb r r && eqb a a) ≡ true
       own b a = rw (equal b, equal r, equal a)
 
+  -- step 5 with a delivery for the run: `admission` decides
+  abbrev admitting : (r k ts ta : ℕ) → ℕ → Verdict
+  admitting r k ts ta number = need (eqb number 0) number (Takes (accepting (t .realm .clock) r (rowAt t r .a) (rowAt t r .b) k ts ta))
+
   takes-on : (r m k ts ta : ℕ) → Brings t m (pair (ticket k (rowAt t r .a) ts (rowAt t r .b)) (authenticator (rowAt t r .a) ta k))
-      → t .realm .clock < ts + t .realm .ls → t .realm .clock < ta + t .realm .la → let number = remembers (rowAt t r .b) k ta in
-      takes (t .realm) (t .terms) (t .wire) (t .cache) r (rowAt t r) m ≡ need (eqb number 0) number (Takes (accepting (t .realm .clock) r (rowAt t r .a) (rowAt t r .b) k ts ta))
+      → takes (t .realm) (t .terms) (t .wire) (t .cache) r (rowAt t r) m
+      ≡ admitting r k ts ta (admission (t .realm) (t .cache) ts (record { b = rowAt t r .b; k = k; ta = ta }))
   unfolding takes
-  takes-on r m k ts ta d l o =
-      let e : Entry = record { b = rowAt t r .b; k = k; ta = ta } in
+  takes-on r m k ts ta d =
       ap (onDelivery (t .realm) (t .terms) (t .wire) (t .cache) r (rowAt t r) m)
       (is-delivery (messageAt (t .terms) m) k (rowAt t r .a) ts (rowAt t r .b) ta .1 (d .is))
       ∙ met (eqb (rowAt t r .a) (rowAt t r .a) && eqb (rowAt t r .b) (rowAt t r .b)) _ _ (twice (rowAt t r .a) (rowAt t r .b))
-      (met (derivableAt (t .realm) (t .terms) (t .wire) m) _ _ (derivable m d)
-      (ap (λ (n : ℕ). need (eqb n 0) n (Takes (accepting (t .realm .clock) r (rowAt t r .a) (rowAt t r .b) k ts ta)))
-      (admission-remembers (t .realm) (t .cache) ts e (lt-ltb _ _ l) (lt-ltb _ _ o) cache-fits)))
+      (met (derivableAt (t .realm) (t .terms) (t .wire) m) _ _ (derivable m d) refl)
 
   finishes-on : (r m : ℕ) → Brings t m (confirmation (rowAt t r .ta) (rowAt t r .k)) → t .realm .clock < rowAt t r .ts + t .realm .ls
       → finishes (t .realm) (t .terms) (t .wire) r (rowAt t r) m
@@ -166,14 +169,43 @@ module _ (t : Tables) (fits : Together t) where
   unfolding usesTable
   takes-in step r m i j = record { run = lt-ltb r (t .realm .runs) i; principals = refl; b = refl; m = lt-ltb m (t .realm .terms) j }
 
-  -- step 5 past 17: it is refused with the number that `remember` answers, or else taken
-  pub delivered : (r m k ts ta : ℕ) → Meets t r Responder Opened → Brings t m (pair (ticket k (rowAt t r .a) ts (rowAt t r .b)) (authenticator (rowAt t r .a) ta k))
-      → t .realm .clock < ts + t .realm .ls → t .realm .clock < ta + t .realm .la → let number = remembers (rowAt t r .b) k ta in
-      decided t (fields 5 r 0 0 m 0) ≡ need (eqb number 0) number (Takes (accepting (t .realm .clock) r (rowAt t r .a) (rowAt t r .b) k ts ta))
+  -- step 5 past 15: the number of `admission`, or else it is taken
+  delivers : (r m k ts ta : ℕ) → Meets t r Responder Opened → Brings t m (pair (ticket k (rowAt t r .a) ts (rowAt t r .b)) (authenticator (rowAt t r .a) ta k))
+      → decided t (fields 5 r 0 0 m 0) ≡ admitting r k ts ta (admission (t .realm) (t .cache) ts (record { b = rowAt t r .b; k = k; ta = ta }))
   unfolding stepOf usesTable needTable
-  delivered r m k ts ta w d l o =
-      decided-by (fields 5 r 0 0 m 0) (omega arith) (omega arith) refl (takes-in 5 r m (w .below) (d .below))
-      (met _ _ _ (w .at) (takes-on r m k ts ta d l o))
+  delivers r m k ts ta w d =
+      decided-by (fields 5 r 0 0 m 0) (omega arith) (omega arith) refl (takes-in 5 r m (w .below) (d .below)) (met _ _ _ (w .at) (takes-on r m k ts ta d))
+
+  -- past 17: 22 exactly where the time is ahead, whatever the cache holds and whether or not the terms fit
+  only-22 : (ok : Bool) (number : ℕ) (x : Effect) → roomed t (need ok number (Takes x)) ≡ Refused 22 → number ≡ 22
+  only-22 false number x z = cc
+  only-22 true number x z = absurd (by (fitsIn (t .terms) (t .realm .terms) (messagesOf (x .sends))) z)
+    where
+      by : (ok : Bool) → need ok 20 (Takes x) ≡ Refused 22 → ⊥
+      by true z = let z : _≡_ {A = ℕ} 0 1 = cc in omega arith
+      by false z = let z : _≡_ {A = ℕ} 20 22 = cc in omega arith
+
+  pub ahead-exact : (r m k ts ta : ℕ) → Meets t r Responder Opened → Brings t m (pair (ticket k (rowAt t r .a) ts (rowAt t r .b)) (authenticator (rowAt t r .a) ta k))
+      → t .realm .clock < ts + t .realm .ls → t .realm .clock < ta + t .realm .la → (decision t (fields 5 r 0 0 m 0) ≡ Refused 22) ↔ (t .realm .clock + t .realm .la < ta)
+  unfolding decision
+  ahead-exact r m k ts ta w d l o =
+      let e : Entry = record { b = rowAt t r .b; k = k; ta = ta } in
+      let number = admission (t .realm) (t .cache) ts e in
+      let q = ap (roomed t) (delivers r m k ts ta w d) in
+      let p = admission-ahead (t .realm) (t .cache) ts e (lt-ltb _ _ l) (lt-ltb _ _ o) in (
+        λ z. leb-false ta (t .realm .clock + t .realm .la) (p .0 (only-22 (eqb number 0) number _ (sym q ∙ z))),
+        λ h. q ∙ ap (λ (n : ℕ). roomed t (admitting r k ts ta n)) (p .1 (lt-leb ta (t .realm .clock + t .realm .la) h)),
+      )
+
+  -- past 22: the number that `remember` answers, or else it is taken
+  pub delivered : (r m k ts ta : ℕ) → Meets t r Responder Opened → Brings t m (pair (ticket k (rowAt t r .a) ts (rowAt t r .b)) (authenticator (rowAt t r .a) ta k))
+      → Timely t ts ta → let number = remembers (rowAt t r .b) k ta in
+      decided t (fields 5 r 0 0 m 0) ≡ need (eqb number 0) number (Takes (accepting (t .realm .clock) r (rowAt t r .a) (rowAt t r .b) k ts ta))
+  delivered r m k ts ta w d l =
+      let e : Entry = record { b = rowAt t r .b; k = k; ta = ta } in
+      delivers r m k ts ta w d
+      ∙ ap (admitting r k ts ta)
+      (admission-remembers (t .realm) (t .cache) ts e (lt-ltb _ _ (l .ticket-lives)) (lt-ltb _ _ (l .authenticator-lives)) (le-leb _ _ (l .not-ahead)) cache-fits)
 
   took-by : {step r a b m now : ℕ} {e : Event} {x : Effect} → Took t (calls.Step step r a b m now) e x → decided t (fields step r a b m now) ≡ Takes x
   unfolding stepOf usesTable needTable opensRun ticks queries
@@ -189,7 +221,7 @@ module _ (t : Tables) (fits : Together t) where
       decided-by (fields 4 r 0 0 m 0) (omega arith) (omega arith) refl (takes-in 4 r m (w .below) (d .below))
       (met _ _ _ (w .at) (authenticates-on r m k ts d l))
   took-by (took5 {r} {m} {k} {ts} {ta} w d l) =
-      delivered r m k ts ta w d (l .ticket-lives) (l .authenticator-lives) ∙ met _ _ _ (eq-eqb (remembers (rowAt t r .b) k ta) 0 (admitted ts (rowAt t r .b) k ta l)) refl
+      delivered r m k ts ta w d (l .timely) ∙ met _ _ _ (eq-eqb (remembers (rowAt t r .b) k ta) 0 (admitted ts (rowAt t r .b) k ta l)) refl
   took-by (took6 {r} {m} w d l) =
       decided-by (fields 6 r 0 0 m 0) (omega arith) (omega arith) refl (takes-in 6 r m (w .below) (d .below))
       (met _ _ _ (w .at) (finishes-on r m d l))

@@ -7,7 +7,6 @@ use mathlib.Core.Bool.{Bool, true, false, not, _&&_, cond}
 use mathlib.Core.List.{List, _∷_}
 use mathlib.Core.Logic.{_⊎_, inl, inr}
 use mathlib.Core.Path.{_≡_, refl}
-use native.Mathlib.Decide.{ℕ-discrete}
 use native.Mathlib.Omega.{arith}
 use lib.Dec.{leb, eqb}
 use borrow.Author.Tests.{eq-eqb, ne-eqb}
@@ -32,7 +31,7 @@ use Rattle.realm.specs.declared.header.Realm.{Realm}
 use Rattle.realm.specs.declared.input.Step.{Step}
 use Rattle.realm.specs.Input.{usesTable, usesOf, unusedZero, inRange, inputRefusal, passed}
 use Rattle.realm.specs.Tables.{Tables}
-use Rattle.conditions.specs.Conditions.{derivableAt, ticketLives, admission}
+use Rattle.conditions.specs.Conditions.{derivableAt, ticketLives, admission, admissionRefusals}
 use Rattle.conditions.specs.Promises.{admission-refusals}
 use Rattle.decisions.specs.declared.Verdict.{Verdict}
 use Rattle.decisions.specs.declared.Verdict.the-variants.{Takes, Refused}
@@ -77,16 +76,17 @@ tells-number ns d k v (inr (i, p)) h = tells-need ns d (eqb k 0) k v i p h
 
 -- ---- the steps that take a message
 
--- 16 to 19, of step 5
-of-admission : {d : Bool} (k : ℕ) → d ≡ true → (k ≡ 0) ⊎ ((16 ≤ k) × (k ≤ 19)) → (k ≡ 0) ⊎ ((k ∈ refusalsOf 5) × Parted d k)
+-- step 5's come after 15
+admission-over : {k : ℕ} → k ∈ admissionRefusals → 15 < k
+admission-over here = omega arith
+admission-over (there here) = omega arith
+admission-over (there (there here)) = omega arith
+admission-over (there (there (there here))) = omega arith
+admission-over (there (there (there (there here)))) = omega arith
+
+of-admission : {d : Bool} (k : ℕ) → d ≡ true → (k ≡ 0) ⊎ (k ∈ admissionRefusals) → (k ≡ 0) ⊎ ((k ∈ refusalsOf 5) × Parted d k)
 of-admission k e (inl z) = inl z
-of-admission k e (inr (low, high)) = inr (by (ℕ-discrete k 16) (ℕ-discrete k 17) (ℕ-discrete k 18), over k (omega arith) e)
-  where
-    by : Dec (k ≡ 16) → Dec (k ≡ 17) → Dec (k ≡ 18) → k ∈ refusalsOf 5
-    by (yes e) _ _ = rw e (there (there (there here)))
-    by (no p) (yes e) _ = rw e (there (there (there (there here))))
-    by (no p) (no q) (yes e) = rw e (there (there (there (there (there here)))))
-    by (no p) (no q) (no r) = let e : k ≡ 19 = omega arith in rw e (there (there (there (there (there (there here))))))
+of-admission k e (inr i) = inr (there (there (there i)), over k (admission-over i) e)
 
 module _ (h : Realm) (ts ws : List ℕ) (m : ℕ) where
   abbrev can : Bool

@@ -42,10 +42,15 @@ pub record Brings (t : Tables) (m : ℕ) (x : Message) : Type 0 where
   pub is : messageAt (t .terms) m ≡ x
   pub derivable : Derives (t .realm .n) (t .realm .flags) (Known (t .terms) (t .realm .terms) (t .wire)) x
 
--- none of 16 to 19
-pub record Admits (t : Tables) (ts b k ta : ℕ) : Type 0 where
+-- neither 16 nor 17 nor 22
+pub record Timely (t : Tables) (ts ta : ℕ) : Type 0 where
   pub ticket-lives : t .realm .clock < ts + t .realm .ls
   pub authenticator-lives : t .realm .clock < ta + t .realm .la
+  pub not-ahead : ta ≤ t .realm .clock + t .realm .la
+
+-- and neither 18 nor 19
+pub record Admits (t : Tables) (ts b k ta : ℕ) : Type 0 where
+  pub timely : Timely t ts ta
   pub absent : present (entries (t .cache) (t .realm .entries)) (record { b = b; k = k; ta = ta }) ≡ false
   pub room : t .realm .entries < 16
 

@@ -69,11 +69,14 @@ module _ (t : Tables) (fits : Together t) where
       let x : Entry = record { b = b; k = k; ta = ta } in
       let p = admission-exact h (t .cache) ts x .0 e in
       let most : h .entries ≤ 16 = fits .entries-most in
-      let other : ¬ (h .entries ≡ 16) = p .3 in
+      let other : ¬ (h .entries ≡ 16) = p .4 in
       record {
-        ticket-lives = ltb-true (h .clock) (ts + h .ls) (p .0);
-        authenticator-lives = ltb-true (h .clock) (ta + h .la) (p .1);
-        absent = p .2;
+        timely = record {
+          ticket-lives = ltb-true (h .clock) (ts + h .ls) (p .0);
+          authenticator-lives = ltb-true (h .clock) (ta + h .la) (p .1);
+          not-ahead = leb-true ta (h .clock + h .la) (p .2);
+        };
+        absent = p .3;
         room = omega arith;
       }
 

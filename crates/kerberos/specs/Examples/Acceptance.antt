@@ -44,7 +44,7 @@ lawful-accepting =
     (λ _. takes5 refl (record {
       form = refl;
       derivable = join (on-wire (sent (there (there (there here))) (there here))) (on-wire (sent (there (there here)) here));
-    }) (le refl) (le refl) nowhere (le refl) (le refl))
+    }) (le refl) (le refl) (le refl) nowhere (le refl) (le refl))
 
 pub unleaked : {k : ℕ} → ¬ (Leaked (log parallel accepting) k)
 unfolding ℕ-discrete

@@ -83,7 +83,7 @@ unleaked-needed = record {
         form = refl;
         derivable = join (on-wire (sent (there (there (there (there here)))) (there here)))
             (encrypt (join (a-principal (le refl)) (a-time (le refl))) (on-wire (sent (there (there (there here))) here)));
-      }) (le refl) (le refl) nowhere (le refl) (le refl));
+      }) (le refl) (le refl) (le refl) nowhere (le refl) (le refl));
   accepts = accepts5;
   no-initiator = λ i a b. leaked-none;
 }
@@ -112,7 +112,7 @@ goodA-needed = record {
         form = refl;
         derivable = join (on-wire (sent (there (there (there here))) (there here)))
             (encrypt (join (a-principal (le refl)) (a-time (le refl))) (left (decrypt (on-wire (sent (there (there (there here))) here)) (bad-key bad1))));
-      }) (le refl) (le refl) nowhere (le refl) (le refl));
+      }) (le refl) (le refl) (le refl) nowhere (le refl) (le refl));
   accepts = accepts5;
   no-initiator = λ i a b. badA-none;
 }
@@ -160,7 +160,7 @@ goodB-needed = record {
         form = refl;
         derivable = join (encrypt (join (own-key own64) (join (a-principal (le refl)) (a-time (le refl)))) (bad-key bad2))
             (encrypt (join (a-principal (le refl)) (a-time (le refl))) (own-key own64));
-      }) (le refl) (le refl) nowhere (le refl) (le refl));
+      }) (le refl) (le refl) (le refl) nowhere (le refl) (le refl));
   accepts = accepts5;
   no-initiator = λ i a b. badB-none;
 }

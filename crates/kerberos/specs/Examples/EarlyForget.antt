@@ -19,7 +19,7 @@ use Rattle.kerberos.specs.Messages.{parallel, ticket, authenticator}
 use Rattle.traces.specs.Logs.{sent}
 use Rattle.kerberos.specs.Log.{Log, clock, run, responderOpened, cacheAfter, cache}
 use Rattle.traces.specs.Conditions.{Delivers}
-use Rattle.kerberos.specs.Rules.{TicketLives, AuthenticatorLives, takes2, takes7, takes8}
+use Rattle.kerberos.specs.Rules.{TicketLives, AuthenticatorLives, NotAhead, takes2, takes7, takes8}
 use Rattle.traces.specs.RuleSets.{History, Entry, entry, call, reading}
 use Rattle.kerberos.specs.Reading.{log, Lawful, rules}
 use Rattle.traces.specs.Sample.{realm, apart, le, nowhere}
@@ -56,6 +56,7 @@ pub second : (run (log parallel purged) 3 ≡ some (responderOpened 1 2))
     × Delivers realm (reading (rules parallel) purged .terms) (log parallel purged) 17 (pair (ticket 1 1 0 2) (authenticator 1 0 1))
     × TicketLives realm (log parallel purged) 0
     × AuthenticatorLives realm (log parallel purged) 0
+    × NotAhead realm (log parallel purged) 0
     × (¬ (entry 2 1 0 ∈ early realm (log parallel purged)))
     × (length (early realm (log parallel purged)) < 16)
 unfolding ℕ-discrete
@@ -66,6 +67,7 @@ second = (
     derivable = join (on-wire (sent (there (there (there (there (there (there (there here))))))) (there here)))
         (on-wire (sent (there (there (there (there (there (there here)))))) here));
   },
+  le refl,
   le refl,
   le refl,
   nowhere,

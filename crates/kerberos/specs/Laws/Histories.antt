@@ -1,6 +1,6 @@
 -- What follows at an acceptance over logs is what is promised over histories. Rules and reading agree.
 -- Assumes nothing.
-use Prim.Native.Nat.{ℕ, _+_, _<_}
+use Prim.Native.Nat.{ℕ, _+_, _<_, _≤_}
 use mathlib.Core.Path.{_≡_, refl, _∙_}
 use mathlib.Core.Option.{Option, some}
 use Rattle.exchange.specs.declared.call.Call.{Call}
@@ -29,8 +29,8 @@ accepted-in accepts5 = did here
 pub accepted-live : {f : Form} {R : Realm} {l : Log} {r a b k ts ta : ℕ}
     → Trace f R l
     → Accepts l r a b k ts ta
-    → (clock l < ts + R .ticketLife) × (clock l < ta + R .authLife)
-accepted-live (add w (taken (takes5 e d t u n s z))) accepts5 = (t, u)
+    → (clock l < ts + R .ticketLife) × (clock l < ta + R .authLife) × (ta ≤ clock l + R .authLife)
+accepted-live (add w (taken (takes5 e d t u v n s z))) accepts5 = (t, u, v)
 
 abbrev partner-later : {p l : Log} {A B k ts ta : ℕ} → p ⊑ l → Partner p A B k ts ta → Partner l A B k ts ta
 partner-later s q = record { run = q .run; authenticated = did-later s (q .authenticated); issued = did-later s (q .issued) }
@@ -71,7 +71,7 @@ taken-read ρ (takes1 i p s z) = refl
 taken-read ρ (takes2 i p s) = refl
 taken-read ρ (takes3 d p s z) = given-some _ _ (d .form)
 taken-read {f} ρ (takes4 {r} {m} {a} {b} {k} {ts} {n} e d o t z) = given-some _ _ e ∙ given-some _ _ (d .form) ∙ read-grant f r _ a b k ts n
-taken-read ρ (takes5 e d t u n s z) = given-some _ _ e ∙ given-some _ _ (d .form)
+taken-read ρ (takes5 e d t u v n s z) = given-some _ _ e ∙ given-some _ _ (d .form)
 taken-read ρ (takes6 e d t) = given-some _ _ e
 taken-read ρ (takes7 h) = refl
 taken-read ρ (takes8 h) = refl

@@ -60,8 +60,8 @@ stays b k ta (taken (takes1 i p s f)) h = h
 stays b k ta (taken (takes2 i p s)) h = h
 stays b k ta (taken (takes3 d p s f)) h = h
 stays b k ta (taken (takes4 e d o t f)) h = h
-stays b k ta (taken (takes5 e d t u n s f)) (inl i) = inl (in-append _ i)
-stays b k ta (taken (takes5 e d t u n s f)) (inr o) = inr o
+stays b k ta (taken (takes5 e d t u v n s f)) (inl i) = inl (in-append _ i)
+stays b k ta (taken (takes5 e d t u v n s f)) (inr o) = inr o
 stays b k ta (taken (takes6 e d t)) h = h
 stays b k ta (taken (takes7 t)) (inl i) = inl i
 stays b k ta (taken (takes7 t)) (inr o) = inr (omega arith)
@@ -83,7 +83,7 @@ fresh : {f : Form} {R : Realm} {l : Log} {r a b k ts ta r′ a′ ts′ : ℕ} {
     → (Accept r′ a′ b k ts′ ta, ms′) ∈ l
     → ⊥
 unfolding Remembered
-fresh w (taken (takes5 e d t u n s f)) i = ⊎-elim n (λ o. omega arith) (remembered w i)
+fresh w (taken (takes5 e d t u v n s f)) i = ⊎-elim n (λ o. omega arith) (remembered w i)
 
 once : {f : Form} {R : Realm} {l : Log} {r a b k ts ta r′ a′ ts′ : ℕ} {ms ms′ : List Message}
     → Trace f R l

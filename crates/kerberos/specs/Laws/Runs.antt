@@ -50,7 +50,7 @@ effect {l = l} (taken (takes1 i p s f)) = moved refl (change-append (runs l) _) 
 effect {l = l} (taken (takes2 i p s)) = moved refl (change-append (runs l) _) refl
 effect {l = l} (taken (takes3 d p s f)) = moved refl (change-append (runs l) _) refl
 effect {l = l} (taken (takes4 e d o t f)) = moved refl (change-set (runs l) _ _ e) refl
-effect {l = l} (taken (takes5 e d t u n s f)) = moved refl (change-set (runs l) _ _ e) refl
+effect {l = l} (taken (takes5 e d t u v n s f)) = moved refl (change-set (runs l) _ _ e) refl
 effect {l = l} (taken (takes6 e d t)) = moved refl (change-set (runs l) _ _ e) refl
 effect (taken (takes7 h)) = rested refl refl
 effect (taken (takes8 h)) = rested refl refl

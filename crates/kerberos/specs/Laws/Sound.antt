@@ -60,7 +60,7 @@ guards f R X safe i before (taken (takes1 v p s z)) here = (tt, (tt, tt))
 guards f R X {l = l} safe i before (taken (takes3 {a = a} {b = b} {n = n} d p s z)) h =
     issue-fine R X l f _ a b _ n (reply-fine f R X l safe _ a b _ n i) (ticket-fine f R X l safe i) h
 guards f R X {l = l} safe i before (taken (takes4 {a = a} {k = k} q d o t z)) h = presented-fine R X l f a _ k (authenticator-fine f R X l safe i) h
-guards f R X {l = l} safe i before (taken (takes5 q d t u n s z)) here = confirmation-fine f R X l safe i
+guards f R X {l = l} safe i before (taken (takes5 q d t u v n s z)) here = confirmation-fine f R X l safe i
 guards f R X safe i before (taken (takes9 {r} q)) here = safe .notLeaked r (by i leaks9)
 
 pub sound : (f : Form) (R : Realm) → Sound (origins f) R (Adds f R)

@@ -36,7 +36,7 @@ asked4 {f} {R} (taken (takes4 {a = a} {b = b} {k = k} {ts = ts} {n = n} e d o t 
 asked5 : {f : Form} {R : Realm} {l : Log} {ms : List Message} {r a b k ts ta : ℕ}
     → Adds f R l (Accept r a b k ts ta, ms)
     → Derivable R l (pair (ticket k a ts b) (authenticator a ta k))
-asked5 (taken (takes5 e d t u n s z)) = d .derivable
+asked5 (taken (takes5 e d t u v n s z)) = d .derivable
 
 module _ {f : Form} {R : Realm} {l : Log} (w : Trace f R l) where
   pub issue-apart : {k a b ts n : ℕ} → Did l (Issue k a b ts n) → Apart a b

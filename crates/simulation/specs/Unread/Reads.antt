@@ -27,7 +27,7 @@ use Rattle.rows.specs.Rows.{rowsOf}
 use Rattle.rows.specs.Promises.{rows-at}
 use Rattle.rows.specs.Runs.{runAt}
 use Rattle.realm.specs.declared.header.Realm.{Realm}
-use Rattle.conditions.specs.Conditions.{ticketLives, authenticatorLives, admission}
+use Rattle.conditions.specs.Conditions.{ticketLives, authenticatorLives, notAhead, admission}
 
 -- ---- what is read of the terms
 
@@ -60,4 +60,4 @@ run-same rs rs′ count same r h = Option·some-injective _ _ (sym (rows-at rs c
 pub admission-same : (h : Realm) (c c′ : List Entry) → entries c (h .entries) ≡ entries c′ (h .entries) → (ts : ℕ) (e : Entry) → admission h c ts e ≡ admission h c′ ts e
 unfolding admission
 admission-same h c c′ same ts e =
-    ap (λ (l : List Entry). cond (not (ticketLives h ts)) 16 (cond (not (authenticatorLives h (e .ta))) 17 (cond (present l e) 18 (cond (eqb (h .entries) 16) 19 0)))) same
+    ap (λ (l : List Entry). cond (not (ticketLives h ts)) 16 (cond (not (authenticatorLives h (e .ta))) 17 (cond (not (notAhead h (e .ta))) 22 (cond (present l e) 18 (cond (eqb (h .entries) 16) 19 0))))) same
