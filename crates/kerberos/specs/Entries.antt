@@ -1,6 +1,6 @@
--- Who puts entries into the replay cache, and with what times: what is promised of each entry after a history, so that it is known
--- who can fill the cache. An entry can be the intruder's work only if its responder is bad, or is a good one's that he deceives with a
--- ticket issued for a bad initiator or with a key that has leaked.
+-- Who can fill the replay cache, and with what times: what is promised of each entry after a history. One is the intruder's own work
+-- only where its responder or its initiator is bad, or its key had leaked; and a good responder's always has a key that the server
+-- issued for it.
 -- Assumes nothing.
 use Prim.Native.Nat.{ℕ, _+_, _<_, _≤_}
 use Rattle.traces.specs.Realm.{Realm, Good}
@@ -8,9 +8,9 @@ use Rattle.traces.specs.Lists.{_∈_, _⊑_}
 use Rattle.traces.specs.Logs.{Did}
 use Rattle.traces.specs.RuleSets.{History, entry}
 use Rattle.kerberos.specs.Messages.{Form}
-use Rattle.kerberos.specs.Log.{Issue, Log, clock, cache}
+use Rattle.kerberos.specs.Log.{Issue, Authenticate, Log, clock, cache}
 use Rattle.kerberos.specs.Reading as reading
-use Rattle.kerberos.specs.Words.{Initiator, Has, Accepts, Leaked}
+use Rattle.kerberos.specs.Words.{Accepts, Leaked}
 
 module _ (f : Form) where
   abbrev log : History → Log
@@ -29,8 +29,8 @@ module _ (f : Form) where
     pub timely : (clock (log acc) < ta + R .authLife) × (ta ≤ clock (log acc) + R .authLife)
     -- If b is good, the server issued the key for that a and b;
     pub issued : Good R b → (n : ℕ) × Did (log acc) (Issue k a b ts n)
-    -- and if a is good too and the key had not leaked by then, an initiator run of a, meant for b, sent the authenticator.
-    pub own : Good R a → Good R b → ¬ (Leaked (log acc) k) → (i : ℕ) × Initiator (log acc) i a b × Has (log acc) i k ts ta
+    -- and if a is good too and the key had not leaked by then, an initiator run of a, meant for b, sent the authenticator at its step 4.
+    pub own : Good R a → Good R b → ¬ (Leaked (log acc) k) → (i : ℕ) × Did (log acc) (Authenticate i a b k ts ta)
 
   abbrev pub Entries : Realm → History → Type 0
   Entries R h = (b k ta : ℕ) → entry b k ta ∈ cache R (log h) → Entered R h b k ta

@@ -1,26 +1,18 @@
 //! Walks with times from the future: they meet clock + La in every way, and a wrong
 //! rule for 22 shows in what they are answered.
 
+mod common;
+
+use common::{files, meets_all};
 use generator::ahead::fast_clocks;
 use generator::ahead_cells::edges;
 use generator::conditions::facts;
-use generator::coverage::Tally;
-use generator::random::Random;
 use reference::file::{read_header, read_record, Record, StepRecord};
 use reference::realm::Realm;
 
-fn files(count: u64) -> impl Iterator<Item = Vec<u8>> {
-    (0..count).map(|number| fast_clocks(&mut Random::new(1, number)).bytes)
-}
-
 #[test]
 fn every_way_is_met() {
-    let mut tally = Tally::default();
-    files(400).for_each(|file| tally.add(&file));
-    for cell in edges() {
-        assert!(tally.count(&cell) > 0, "never met: {cell}");
-    }
-    assert_eq!(edges().len(), 11);
+    meets_all(fast_clocks, &edges(), 11);
 }
 
 /// A delivery's clock, Ls, La and Ta.
@@ -91,7 +83,7 @@ fn wrong_rules_are_found() {
         sum_of_32_bits,
         no_rule,
     ];
-    let found = wrong.map(|rule| files(300).filter(|file| shows(file, rule)).count());
+    let found = wrong.map(|rule| files(fast_clocks, 300).filter(|file| shows(file, rule)).count());
     assert!(found.iter().all(|count| *count > 20), "{found:?}");
-    assert_eq!(files(300).filter(|file| shows(file, right)).count(), 0);
+    assert_eq!(files(fast_clocks, 300).filter(|file| shows(file, right)).count(), 0);
 }

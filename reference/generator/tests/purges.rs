@@ -1,25 +1,17 @@
 //! Walks with purges at every tick: they meet the cache in every way, and a pass
 //! over it that forgets wrongly shows in what they are answered.
 
-use generator::coverage::Tally;
+mod common;
+
+use common::{files, meets_all};
 use generator::purge_cells::{edges, ways};
 use generator::purges::each_tick;
-use generator::random::Random;
 use reference::file::{read_header, read_record, Record, StepRecord};
 use reference::realm::{Entry, Realm};
 
-fn files(count: u64) -> impl Iterator<Item = Vec<u8>> {
-    (0..count).map(|number| each_tick(&mut Random::new(1, number)).bytes)
-}
-
 #[test]
 fn every_way_is_met() {
-    let mut tally = Tally::default();
-    files(400).for_each(|file| tally.add(&file));
-    for cell in edges() {
-        assert!(tally.count(&cell) > 0, "never met: {cell}");
-    }
-    assert_eq!(edges().len(), 14);
+    meets_all(each_tick, &edges(), 14);
 }
 
 #[test]
@@ -115,7 +107,8 @@ fn told(file: &[u8], pass: Pass) -> Vec<String> {
 #[test]
 fn wrong_passes_are_found() {
     let wrong: [Pass; 5] = [skipping, one_only, but_the_last, unmoved, dropping];
-    let found =
-        wrong.map(|pass| files(300).filter(|file| told(file, pass) != told(file, right)).count());
+    let found = wrong.map(|pass| {
+        files(each_tick, 300).filter(|file| told(file, pass) != told(file, right)).count()
+    });
     assert!(found.iter().all(|count| *count > 20), "{found:?}");
 }

@@ -176,7 +176,7 @@ module _ (t : Tables) (fits : Together t) where
   delivers r m k ts ta w d =
       decided-by (fields 5 r 0 0 m 0) (omega arith) (omega arith) refl (takes-in 5 r m (w .below) (d .below)) (met _ _ _ (w .at) (takes-on r m k ts ta d))
 
-  -- past 17: 22 exactly where the time is ahead, whatever the cache holds and whether or not the terms fit
+  -- no other way gives 22
   only-22 : (ok : Bool) (number : ℕ) (x : Effect) → roomed t (need ok number (Takes x)) ≡ Refused 22 → number ≡ 22
   only-22 false number x z = cc
   only-22 true number x z = absurd (by (fitsIn (t .terms) (t .realm .terms) (messagesOf (x .sends))) z)
@@ -185,6 +185,7 @@ module _ (t : Tables) (fits : Together t) where
       by true z = let z : _≡_ {A = ℕ} 0 1 = cc in omega arith
       by false z = let z : _≡_ {A = ℕ} 20 22 = cc in omega arith
 
+  -- past 17: 22 exactly where the time is ahead, whatever the cache holds and whether or not the terms fit
   pub ahead-exact : (r m k ts ta : ℕ) → Meets t r Responder Opened → Brings t m (pair (ticket k (rowAt t r .a) ts (rowAt t r .b)) (authenticator (rowAt t r .a) ta k))
       → t .realm .clock < ts + t .realm .ls → t .realm .clock < ta + t .realm .la → (decision t (fields 5 r 0 0 m 0) ≡ Refused 22) ↔ (t .realm .clock + t .realm .la < ta)
   unfolding decision

@@ -15,11 +15,10 @@ use Rattle.traces.specs.Laws.Histories.{log-point, point-of, trace-of}
 use Rattle.kerberos.specs.Messages.{Form}
 use Rattle.kerberos.specs.Log.{Event, Initiate, Respond, Issue, Authenticate, Accept, Finish, Tick, Purge, Leak, Nothing, Log, clock, forget, cacheAfter, cache}
 use Rattle.kerberos.specs.Reading.{rules, log, Lawful}
-use Rattle.kerberos.specs.Words.{Accepts, accepts5, from4}
+use Rattle.kerberos.specs.Words.{Accepts, accepts5}
 use Rattle.kerberos.specs.Entries.{Entered, Entries}
 use Rattle.kerberos.specs.Laws.Acceptance.{find-partner}
 use Rattle.kerberos.specs.Laws.Histories.{accepted-in, accepted-live}
-use Rattle.kerberos.specs.Laws.Runs.{authenticate-opened}
 use Rattle.kerberos.specs.Laws.Taken.{accept-issued}
 
 -- ---- what a purge leaves was there
@@ -99,5 +98,5 @@ entered {f} {R} {h} lawful b k ta i =
       accepted = x;
       timely = (live .1, live .2);
       issued = λ good. accept-issued v good (accepted-in x);
-      own = λ goodA goodB unleaked. let o = find-partner v goodA goodB (accepted-in x) unleaked in (o .run, authenticate-opened v (o .authenticated), from4 (o .authenticated));
+      own = λ goodA goodB unleaked. let o = find-partner v goodA goodB (accepted-in x) unleaked in (o .run, o .authenticated);
     }
