@@ -1,4 +1,4 @@
-// The conditions that steps share: whether the intruder can deliver a message, lives, and the replay cache.
+// The conditions that steps share: whether the intruder can deliver a message, times, and the replay cache.
 use deduction::Principals;
 use realm::header::Realm;
 use replay::cache::refusal;
