@@ -21,12 +21,12 @@ const FIRST_GOOD: u8 = 8;
 pub fn filled() -> (Walk, Vec<Record>) {
     let header = Header { flags: 0x00fe, ticket_life: 12, ..GOOD };
     let mut walk = walk(header);
-    let (waiting, late) = late_reply(&mut walk);
+    let late = late_reply(&mut walk);
     let exchanges: Vec<Exchange> = (0..20).map(|number| exchange(&mut walk, number)).collect();
     let (old, fresh) = (exchanges[15].clone(), exchanges[19].clone());
     let second = opens(&mut walk, StepRecord { step: 2, a: old.a, b: old.b, ..STEP });
     opens(&mut walk, StepRecord { step: 2, a: old.a, b: old.b, ..STEP });
-    let expired = made_delivery(&mut walk, &fresh);
+    let expired = fresh.delivery_at(&mut walk, 0);
     let hidden = hidden_delivery(&mut walk, &fresh);
     let nested = nested(&mut walk, &exchanges);
     tick(&mut walk);
@@ -38,7 +38,7 @@ pub fn filled() -> (Walk, Vec<Record>) {
         Record::Step(fresh.delivers()),
         Record::Step(StepRecord { step: 5, run, message: expired, ..STEP }),
         Record::Step(StepRecord { step: 5, run, message: hidden, ..STEP }),
-        Record::Step(StepRecord { step: 4, run: waiting, message: late, ..STEP }),
+        Record::Step(late),
         Record::Step(StepRecord { step: 10, message: nested, ..STEP }),
     ];
     (walk, records)
@@ -57,25 +57,12 @@ fn exchange(walk: &mut Walk, number: u8) -> Exchange {
     exchange
 }
 
-/// An initiator run that waits, and the reply to it, which will be too old.
-fn late_reply(walk: &mut Walk) -> (u8, u16) {
-    let (a, b) = (1, FIRST_GOOD);
-    let initiator = opens(walk, StepRecord { step: 1, a, b, ..STEP });
-    let nonce = Shape::Nonce(initiator);
-    let request = walk.realm.terms.list(&[Shape::Principal(a), Shape::Principal(b), nonce.clone()]);
-    let message = spelt(walk, &request);
-    let server = opens(walk, StepRecord { step: 3, message, ..STEP });
-    let body = [Shape::SessionKey(server), Shape::Principal(b), Shape::Time(0), nonce];
-    let reply = encrypted(walk, &body, Shape::LongTermKey(a));
-    (initiator, spelt(walk, &reply))
-}
-
-/// The exchange's ticket with an authenticator of the intruder's, of time 0.
-fn made_delivery(walk: &mut Walk, exchange: &Exchange) -> u16 {
-    let body = [Shape::Principal(exchange.a), Shape::Time(0)];
-    let authenticator = encrypted(walk, &body, Shape::SessionKey(exchange.server));
-    let authenticator = spelt(walk, &authenticator);
-    term(walk, 5, exchange.ticket, authenticator)
+/// An initiator run that waits for the reply, which will be too old.
+fn late_reply(walk: &mut Walk) -> StepRecord {
+    let mut exchange = Exchange::between(1, FIRST_GOOD);
+    exchange.asks(walk);
+    exchange.is_served(walk);
+    exchange.takes()
 }
 
 /// A delivery to the exchange's responder under a key that the intruder has not.

@@ -10,8 +10,8 @@ use Shape::{LongTermKey, Nonce, Principal, SessionKey, Time};
 
 pub const STEP: StepRecord = StepRecord { step: 0, run: 0, a: 0, b: 0, message: 0, time: 0 };
 
-/// The runs and the terms of one exchange.
-#[derive(Clone, Debug)]
+/// The runs and the terms of one exchange, as far as it has come; the others are 0.
+#[derive(Clone, Debug, Default)]
 pub struct Exchange {
     pub a: u8,
     pub b: u8,
@@ -27,30 +27,75 @@ pub struct Exchange {
 impl Exchange {
     /// Steps 1, 3, 4 and 2, and the term that step 5 takes.
     pub fn prepare(walk: &mut Walk, a: u8, b: u8) -> Exchange {
-        let initiator = opens(walk, StepRecord { step: 1, a, b, ..STEP });
-        let request = walk.realm.terms.list(&[Principal(a), Principal(b), Nonce(initiator)]);
+        let mut exchange = Exchange::between(a, b);
+        exchange.asks(walk);
+        exchange.is_served(walk);
+        exchange.takes_key(walk);
+        exchange.meets(walk);
+        exchange
+    }
+
+    /// One that has not begun.
+    pub fn between(a: u8, b: u8) -> Exchange {
+        Exchange { a, b, ..Exchange::default() }
+    }
+
+    /// Step 1.
+    pub fn asks(&mut self, walk: &mut Walk) {
+        self.initiator = opens(walk, StepRecord { step: 1, a: self.a, b: self.b, ..STEP });
+    }
+
+    /// Step 3.
+    pub fn is_served(&mut self, walk: &mut Walk) {
+        let (a, b, nonce) = (Principal(self.a), Principal(self.b), Nonce(self.initiator));
+        let request = walk.realm.terms.list(&[a.clone(), b.clone(), nonce.clone()]);
         let message = number(walk, &request);
-        let server = opens(walk, StepRecord { step: 3, message, ..STEP });
-        let (key, clock) = (SessionKey(server), Time(walk.realm.clock));
-        let body = [key.clone(), Principal(b), clock.clone(), Nonce(initiator)];
-        let reply = sent(walk, &body, LongTermKey(a));
-        let ticket = sent(walk, &[key.clone(), Principal(a), clock.clone()], LongTermKey(b));
-        accepted(walk, StepRecord { step: 4, run: initiator, message: reply, ..STEP });
-        let authenticator = sent(walk, &[Principal(a), clock], key);
-        let responder = opens(walk, StepRecord { step: 2, a, b, ..STEP });
-        let delivery = term(walk, 5, ticket, authenticator);
-        Exchange { a, b, initiator, server, responder, reply, ticket, authenticator, delivery }
+        self.server = opens(walk, StepRecord { step: 3, message, ..STEP });
+        let (key, clock) = (SessionKey(self.server), Time(walk.realm.clock));
+        self.reply = sent(walk, &[key.clone(), b, clock.clone(), nonce], LongTermKey(self.a));
+        self.ticket = sent(walk, &[key, a, clock], LongTermKey(self.b));
+    }
+
+    pub fn takes(&self) -> StepRecord {
+        StepRecord { step: 4, run: self.initiator, message: self.reply, ..STEP }
+    }
+
+    /// Step 4.
+    pub fn takes_key(&mut self, walk: &mut Walk) {
+        accepted(walk, self.takes());
+        let body = [Principal(self.a), Time(walk.realm.clock)];
+        self.authenticator = sent(walk, &body, SessionKey(self.server));
+    }
+
+    /// Step 2, and the term that step 5 takes.
+    pub fn meets(&mut self, walk: &mut Walk) {
+        self.responder = opens(walk, StepRecord { step: 2, a: self.a, b: self.b, ..STEP });
+        self.delivery = term(walk, 5, self.ticket, self.authenticator);
+    }
+
+    /// The ticket with an authenticator of this time, which nobody need have sent.
+    pub fn delivery_at(&self, walk: &mut Walk, time: u32) -> u16 {
+        let body = [Principal(self.a), Time(time)];
+        let authenticator = encrypted(walk, &body, SessionKey(self.server));
+        let authenticator = spelt(walk, &authenticator);
+        term(walk, 5, self.ticket, authenticator)
     }
 
     pub fn delivers(&self) -> StepRecord {
         StepRecord { step: 5, run: self.responder, message: self.delivery, ..STEP }
     }
 
+    /// Step 6 with the confirmation of this time, which nobody need have sent.
+    pub fn confirms_at(&self, walk: &mut Walk, time: u32) -> StepRecord {
+        let confirmation = encrypted(walk, &[Time(time)], SessionKey(self.server));
+        let message = spelt(walk, &confirmation);
+        StepRecord { step: 6, run: self.initiator, message, ..STEP }
+    }
+
     /// Steps 5 and 6, at the clock of step 4; gives the latter.
     pub fn complete(&self, walk: &mut Walk) -> StepRecord {
         accepted(walk, self.delivers());
-        let message = sent(walk, &[Time(walk.realm.clock)], SessionKey(self.server));
-        let confirms = StepRecord { step: 6, run: self.initiator, message, ..STEP };
+        let confirms = self.confirms_at(walk, walk.realm.clock);
         accepted(walk, confirms);
         confirms
     }
