@@ -1,6 +1,8 @@
 //! Each row's files are what its name says, by the listing of the reference and
 //! the tables that it has after them.
 
+mod common;
+
 use std::collections::BTreeSet;
 
 use bench::calls::sweeps;
@@ -9,38 +11,14 @@ use bench::rows::ROWS;
 use bench::sides::compare;
 use bench::walks::{self, LONG};
 use bench::written::Walk;
-use reference::file::{read_header, read_record, read_records, Record, MAX_FILE_BYTES};
+use common::{answers, lines, realm, records};
+use reference::file::{read_header, Record, MAX_FILE_BYTES};
 use reference::listing;
-use reference::realm::Realm;
 use reference::terms::Message;
 use reference::writing;
 
-fn lines(file: &[u8]) -> Vec<String> {
-    listing(file).lines().map(String::from).collect()
-}
-
-/// The answers of the records after the header, without their numbers; without
-/// the last line.
-fn answers(file: &[u8]) -> Vec<String> {
-    let lines = lines(file);
-    let answers = lines[1..lines.len() - 1].iter();
-    answers.map(|line| line.split_once(' ').unwrap().1.to_string()).collect()
-}
-
 fn count(answers: &[String], answer: &str) -> usize {
     answers.iter().filter(|found| *found == answer).count()
-}
-
-/// The realm after a file.
-fn realm(file: &[u8]) -> Realm {
-    let (header, mut rest) = read_header(file).unwrap();
-    let mut realm = Realm::new(header.settings());
-    while let Some(read) = read_record(rest) {
-        let Ok((record, after)) = read else { break };
-        let _ = realm.apply(&record);
-        rest = after;
-    }
-    realm
 }
 
 #[test]
@@ -209,7 +187,6 @@ fn purges_keep_a_full_cache() {
 /// On each tick every principal's entries are purged once.
 #[test]
 fn there_are_32_purges_a_tick() {
-    let records = |file: &[u8]| read_records(read_header(file).unwrap().1).0;
     let filling = records(&walks::purges(0)).len();
     let repeated = records(&walks::purges(8)).split_off(filling);
     let mut clock = realm(&walks::purges(0)).clock;
