@@ -6,6 +6,7 @@ pub mod callgrind;
 pub mod calls;
 pub mod deliveries;
 pub mod exchange;
+pub mod principals;
 pub mod rows;
 pub mod sides;
 pub mod table;

@@ -25,7 +25,7 @@ const fn written(name: &'static str, files: fn(usize) -> Vec<Vec<u8>>) -> Row {
     Row { name, work: Work::Write, files }
 }
 
-pub const ROWS: [Row; 9] = [
+pub const ROWS: [Row; 10] = [
     listed("a long honest walk", |eighths| vec![walks::honest(eighths)]),
     listed("terms only", |eighths| vec![walks::terms_only(eighths)]),
     listed("the first of 512 terms again", |eighths| vec![walks::first_term(eighths)]),
@@ -34,6 +34,7 @@ pub const ROWS: [Row; 9] = [
     }),
     listed("deep shared terms", |eighths| vec![walks::deep(eighths)]),
     listed("32 purges a tick on a full cache", |eighths| vec![walks::purges(eighths)]),
+    listed("many principals", |eighths| vec![walks::principals(eighths)]),
     listed("8,000 damaged files", walks::damaged),
     listed("10,000 small files", walks::small),
     written("the five long walks written out", walks::long),

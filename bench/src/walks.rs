@@ -1,6 +1,6 @@
 //! The walk files of the rows. A long file starts with records that fill the
-//! tables; those after them leave the tables as they are, but for the clock of the
-//! purges, so that twice as many are twice the work.
+//! tables; those after them leave the tables as they are, but for the clock where
+//! it moves, so that twice as many are twice the work.
 
 use generator::random::Random;
 use generator::walk::Walk;
@@ -11,8 +11,8 @@ use reference::realm::{MAX_ENTRIES, MAX_RUNS};
 use reference::terms::MAX_TERMS;
 use reference::writing::record_bytes;
 
-use crate::deliveries;
 use crate::exchange::{accepted, opens, term, tick, walk, Exchange, STEP};
+use crate::{deliveries, principals};
 
 pub const SMALL_FILES: usize = 10_000;
 pub const SMALL_BYTES: usize = 600;
@@ -201,6 +201,12 @@ pub fn purges(eighths: usize) -> Vec<u8> {
             _ => StepRecord { step: 8, b: place as u8 - 1, ..STEP },
         })
     })
+}
+
+/// A realm of 32 principals, in `principals.rs`. The clock moves.
+pub fn principals(eighths: usize) -> Vec<u8> {
+    let (walk, next) = principals::filled();
+    extended(walk, eighths, next)
 }
 
 pub const LONG: [fn(usize) -> Vec<u8>; 5] = [honest, terms_only, first_term, deliveries, deep];

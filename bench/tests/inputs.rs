@@ -37,7 +37,8 @@ fn files_are_the_same_each_time() {
 
 #[test]
 fn long_files_grow_by_their_records() {
-    for make in LONG.into_iter().chain([walks::purges as fn(usize) -> Vec<u8>]) {
+    let with_ticks: [fn(usize) -> Vec<u8>; 2] = [walks::purges, walks::principals];
+    for make in LONG.into_iter().chain(with_ticks) {
         let filling = lines(&make(0)).len();
         let repeated = lines(&make(1)).len() - filling;
         assert!(repeated > 500);
