@@ -8,6 +8,7 @@ pub mod deliveries;
 pub mod exchange;
 pub mod principals;
 pub mod rows;
+pub mod sending;
 pub mod sides;
 pub mod table;
 pub mod timing;

@@ -25,7 +25,7 @@ const fn written(name: &'static str, files: fn(usize) -> Vec<Vec<u8>>) -> Row {
     Row { name, work: Work::Write, files }
 }
 
-pub const ROWS: [Row; 10] = [
+pub const ROWS: [Row; 11] = [
     listed("a long honest walk", |eighths| vec![walks::honest(eighths)]),
     listed("terms only", |eighths| vec![walks::terms_only(eighths)]),
     listed("the first of 512 terms again", |eighths| vec![walks::first_term(eighths)]),
@@ -37,5 +37,6 @@ pub const ROWS: [Row; 10] = [
     listed("many principals", |eighths| vec![walks::principals(eighths)]),
     listed("8,000 damaged files", walks::damaged),
     listed("10,000 small files", walks::small),
+    listed("every step sends", walks::sending),
     written("the five long walks written out", walks::long),
 ];

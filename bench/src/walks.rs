@@ -12,12 +12,13 @@ use reference::terms::MAX_TERMS;
 use reference::writing::record_bytes;
 
 use crate::exchange::{accepted, opens, term, tick, walk, Exchange, STEP};
-use crate::{deliveries, principals};
+use crate::{deliveries, principals, sending};
 
 pub const SMALL_FILES: usize = 10_000;
 pub const SMALL_BYTES: usize = 600;
 pub const DAMAGED_FILES: usize = 8_000;
-const SEED: u64 = 1;
+pub const SENDING_FILES: usize = 96;
+pub const SEED: u64 = 1;
 
 /// All principals are good.
 pub const GOOD: Header = Header {
@@ -237,4 +238,9 @@ pub fn small(eighths: usize) -> Vec<Vec<u8>> {
         .filter(|file| file.len() <= SMALL_BYTES)
         .take(SMALL_FILES / 8 * eighths)
         .collect()
+}
+
+/// Walks whose steps send, in `sending.rs`.
+pub fn sending(eighths: usize) -> Vec<Vec<u8>> {
+    (0..(SENDING_FILES / 8 * eighths) as u64).map(sending::file).collect()
 }
