@@ -13,6 +13,7 @@ use lib.ListN.{getD, replicate, length-replicate}
 use Rattle.marks.specs.Marks.{marked}
 use Rattle.marks.specs.Size.{size-le}
 use Rattle.marks.specs.Empty.{empty-words, empty-marked, empty-size}
+use Rattle.marks.specs.Within.{Below}
 use Rattle.words.specs.declared.Term.the-variants.{Pair, Encrypted}
 use Rattle.terms.specs.Choice.{cond-elim, no-true}
 use Rattle.terms.specs.Rules.{termAt}
@@ -159,13 +160,15 @@ module _ (flags : ℕ) {n : ℕ} {ts : List ℕ} {count : ℕ} (v : Valid n ts c
           holds = λ i lt m. step .more .keeps i (x .holds i lt m);
         })
 
-    pub explore-end : f .count ≤ d → Filled n flags ts count ws (f .known)
-    explore-end over =
-        record {
-          holds = x .holds;
-          sound = x .work .sound;
-          full = record { halves = halves; bodies = λ i b k h m e o. bodies i b k m e o (place i m) };
-        }
+    pub explore-end : f .count ≤ d → Filled n flags ts count ws (f .known) × Below count (f .known)
+    explore-end over = (
+      record {
+        holds = x .holds;
+        sound = x .work .sound;
+        full = record { halves = halves; bodies = λ i b k h m e o. bodies i b k m e o (place i m) };
+      },
+      x .work .listed .below,
+    )
       where
         place : (i : ℕ) → marked (f .known) i ≡ true → (j : ℕ) × (j < d) × (getD (f .list) j 0 ≡ i)
         place i m = let p = x .work .listed .place i m in (p .0, omega (arith, p .1, x .within, over), p .2)

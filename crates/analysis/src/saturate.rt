@@ -15,6 +15,7 @@ ghost use lib.ListN.{length};
 ghost use Rattle.terms.specs.Meaning.{Under};
 ghost use Rattle.terms.specs.Rules.{termAt, isKey};
 ghost use Rattle.terms.specs.Valid.{Valid};
+ghost use Rattle.marks.specs.Within.{Below};
 ghost use Rattle.deduction.specs.Known.{Filled};
 ghost use Rattle.deduction.specs.Opens.{opensOf};
 ghost use Rattle.worklist.specs.Chains.{Chained, Linked};
@@ -129,7 +130,7 @@ fn explore(
     found: usize,
 )
     requires { ⌜ Valid (who .n) (now terms) count × Chained (now terms) count count (now chains) × Listed count (asFound (now set) (now list) found) ⌝ }
-    ensures { λ _. ⌜ Filled (who .n) (who .flags) (now (terms .entry)) count (now (set .entry)) (now (set .exit)) ⌝ }
+    ensures { λ _. ⌜ Filled (who .n) (who .flags) (now (terms .entry)) count (now (set .entry)) (now (set .exit)) × Below count (now (set .exit)) ⌝ }
 {
     let mut total = found;
     let mut done: usize = 0;
@@ -143,7 +144,7 @@ fn explore(
 // All that opening and splitting gives of the terms on the wire.
 pub fn saturate(terms: &[u64], count: usize, who: Principals, wire: &[u64]) -> [u64; 8]
     requires { ⌜ Valid (who .n) (now terms) count × (length (now wire) ≡ 8) ⌝ }
-    ensures { λ r. ⌜ Filled (who .n) (who .flags) (now (terms .entry)) count (now (wire .entry)) r ⌝ }
+    ensures { λ r. ⌜ Filled (who .n) (who .flags) (now (terms .entry)) count (now (wire .entry)) r × Below count r ⌝ }
 {
     let mut chains = [0u16; 512];
     chain(terms, count, &mut chains);

@@ -5,7 +5,9 @@ use mathlib.Core.Bool.{Bool, not, cond}
 use mathlib.Core.List.{List, [], _∷_}
 use lib.Dec.{ltb, leb}
 use Rattle.marks.specs.Marks.{Words}
+use Rattle.marks.specs.Within.{Below}
 use Rattle.terms.specs.Valid.{Valid}
+use Rattle.synthesis.specs.Knowledge.{Kept}
 use Rattle.synthesis.specs.Test.{derivableOf}
 use Rattle.replay.specs.Cache.{cacheRefusal}
 use Rattle.replay.specs.declared.entry.Entry.{Entry}
@@ -15,7 +17,12 @@ use Rattle.realm.specs.declared.header.Realm.{Realm}
 pub record Askable (h : Realm) (ts ws : List ℕ) (m : ℕ) : Type 0 where
   pub terms : Valid (h .n) ts (h .terms)
   pub wire : Words 8 ws
+  pub marks : Below (h .terms) ws
   pub below : m < h .terms
+
+-- what is kept of what the intruder was found to know is true of these terms
+abbrev pub KeptBy : Realm → (ts ks : List ℕ) → Type 0
+KeptBy h ts ks = Kept (h .n) (h .flags) ts (h .terms) ks
 
 -- "the intruder can build m"
 abbrev pub derivableAt : Realm → (ts ws : List ℕ) → ℕ → Bool

@@ -6,7 +6,7 @@ use replay::entry::Entry;
 use synthesis::compose::derivable;
 ghost use mathlib.Core.Path.{_≡_};
 ghost use Prim.Native.Nat.{_≤_};
-ghost use Rattle.conditions.specs.Conditions.{Askable, derivableAt, ticketLives, authenticatorLives, notAhead, admission};
+ghost use Rattle.conditions.specs.Conditions.{Askable, KeptBy, derivableAt, ticketLives, authenticatorLives, notAhead, admission};
 
 pub const REFUSE_TICKET: u8 = 16;
 
@@ -14,16 +14,16 @@ pub const REFUSE_AUTHENTICATOR: u8 = 17;
 
 pub const REFUSE_AHEAD: u8 = 22;
 
-// Whether the intruder can derive term m.
-pub fn can_deliver(h: Realm, terms: &[u64], wire: &[u64], m: u16) -> bool
-    requires { ⌜ Askable h (now terms) (now wire) m ⌝ }
-    ensures { λ r. ⌜ r ≡ derivableAt h (now (terms .entry)) (now (wire .entry)) m ⌝ }
+// Whether the intruder can derive term m. What he is found to know is kept in `known` for the next question.
+pub fn can_deliver(h: Realm, terms: &[u64], wire: &[u64], known: &mut [u64], m: u16) -> bool
+    requires { ⌜ Askable h (now terms) (now wire) m × KeptBy h (now terms) (now known) ⌝ }
+    ensures { λ r. ⌜ (r ≡ derivableAt h (now (terms .entry)) (now (wire .entry)) m) × KeptBy h (now (terms .entry)) (now (known .exit)) ⌝ }
 {
     let who = Principals {
         n: h.n as u16,
         flags: h.flags,
     };
-    derivable(terms, h.terms, who, wire, m as usize)
+    derivable(terms, h.terms, who, wire, known, m as usize)
 }
 
 // Whether a ticket of this time lives. Sums of times are exact.

@@ -1,3 +1,4 @@
 -- The laws by which the functions meet their contracts, one for each way out.
+pub mod Settle
 pub mod Plan
 pub mod Decide

@@ -13,11 +13,11 @@ use layouts::lay_confirmation;
 use layouts::lay_issue;
 use layouts::lay_key;
 use layouts::lay_request;
-use messages::plan::fresh;
 use sending::Marks;
 use sending::Prepared;
 use sending::plan_messages;
 ghost use mathlib.Core.Path.{_≡_};
+ghost use lib.ListN.{length};
 ghost use Rattle.sending.specs.Send.{PlanFor};
 ghost use Rattle.decisions.specs.Effects.{messagesOf};
 ghost use Rattle.deciding.specs.Layout.{rootsOf, draftOf, CanSend};
@@ -70,22 +70,19 @@ fn draft_of(sends: Sends) -> [Node; 16]
     }
 }
 
-// Plans the messages.
-pub fn plan_sends(terms: &[u64], count: usize, sends: Sends) -> Prepared
-    requires { ⌜ CanSend (now terms) count sends ⌝ }
-    ensures { λ r. ⌜ PlanFor (now (terms .entry)) count (messagesOf sends) r ⌝ }
+// Plans the messages in `words`.
+pub fn plan_sends(terms: &[u64], count: usize, sends: Sends, words: &mut [u64]) -> Prepared
+    requires { ⌜ CanSend (now terms) count sends × (length (now words) ≡ 32) ⌝ }
+    ensures { λ r. ⌜ PlanFor (now (terms .entry)) count (messagesOf sends) (now (words .exit)) r ⌝ }
 {
     match roots_of(sends) {
         Roots::At { first, last } => {
             let draft = draft_of(sends);
-            plan_messages(terms, count, draft, first, last)
+            plan_messages(terms, count, draft, first, last, words)
         }
-        Roots::Nothing => {
-            let plan = fresh();
-            Prepared {
-                plan,
-                marks: Marks::Nothing,
-            }
-        }
+        Roots::Nothing => Prepared {
+            count: 0,
+            marks: Marks::Nothing,
+        },
     }
 }

@@ -44,17 +44,6 @@ module _ (n flags : ℕ) (K : Message → Type 0) where
   synth-derives W g (encrypted m x) s =
       ⊎-elim (g (encrypted m x)) (λ p. encrypt (synth-derives W g m (p .0)) (⊎-elim (g (key x)) (free (key x)) (p .1))) s
 
--- more to put together from that could be put together anyway puts together no more
-pub synth-map : (n flags : ℕ) (K K′ : Message → Type 0) → ((m : Message) → K m → Synth n flags K′ m) → (m : Message) → Synth n flags K m → Synth n flags K′ m
-synth-map n flags K K′ g (principal p) s = ⊎-elim (g (principal p)) (λ f. inr f) s
-synth-map n flags K K′ g (time t) s = ⊎-elim (g (time t)) (λ f. inr f) s
-synth-map n flags K K′ g (nonce i) s = ⊎-elim (g (nonce i)) (λ f. inr f) s
-synth-map n flags K K′ g (key x) s = ⊎-elim (g (key x)) (λ f. inr f) s
-synth-map n flags K K′ g (pair a b) s =
-    ⊎-elim (g (pair a b)) (λ p. inr (synth-map n flags K K′ g a (p .0), synth-map n flags K K′ g b (p .1))) s
-synth-map n flags K K′ g (encrypted m x) s =
-    ⊎-elim (g (encrypted m x)) (λ p. inr (synth-map n flags K K′ g m (p .0), ⊎-elim (g (key x)) (λ f. inr f) (p .1))) s
-
 -- what can be derived is what can be put together from a set A that holds the wire, halves of its pairs, and bodies of
 -- its encryptions where the key can be put together
 pub derives-in : (n flags : ℕ) (Wire A : Message → Type 0) → ((m : Message) → Wire m → A m)

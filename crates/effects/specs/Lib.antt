@@ -4,6 +4,7 @@ pub mod Call
 pub mod Kept
 pub mod Numbers
 pub mod Added
+pub mod Older
 pub mod Row
 pub mod Cache
 pub mod ThinCalls

@@ -27,18 +27,18 @@ pub fn apply(
     wire: &mut [u64],
     cache: [Entry; 16],
     effect: Effect,
+    words: &[u64],
     prepared: Prepared,
 ) -> After
-    requires { ⌜ Together (tables h (now terms) (now runs) (now wire) cache) × Writable (tables h (now terms) (now runs) (now wire) cache) effect prepared ⌝ }
+    requires { ⌜ Together (tables h (now terms) (now runs) (now wire) cache) × Writable (tables h (now terms) (now runs) (now wire) cache) effect (now words) prepared ⌝ }
     ensures { λ r. ⌜ outcome r (now (terms .exit)) (now (runs .exit)) (now (wire .exit)) ≡ applied (tables h (now (terms .entry)) (now (runs .entry)) (now (wire .entry)) cache) effect ⌝ }
 {
     let change = effect.change;
     let keeping = effect.keeping;
     let names = effect.names;
-    let plan = prepared.plan;
-    let added = plan.count;
+    let added = prepared.count;
     let count = h.terms + added;
-    write_messages(terms, wire, h.terms, prepared);
+    write_messages(terms, wire, h.terms, words, prepared);
     let opened = write_row(runs, h.runs, change);
     let swept = cache_after(h, cache, keeping);
     let places = swept.places;

@@ -2,3 +2,4 @@
 -- effects/Call.
 pub mod Call
 pub mod Ways
+pub mod Known

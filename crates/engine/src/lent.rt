@@ -7,6 +7,7 @@ use exchange::call::Call;
 use realm::header::Realm;
 use realm::tables::tables_hold;
 use replay::entry::Entry;
+use synthesis::knowledge::KNOWN_WORDS;
 use terms::rules::REFUSE_TABLES;
 ghost use mathlib.Core.Path.{_≡_};
 ghost use Rattle.effects.specs.Apply.{outcome};
@@ -31,5 +32,6 @@ pub fn checked_call(
             answer: Answer::Refused(REFUSE_TABLES),
         };
     }
-    call(h, terms, runs, wire, cache, c)
+    let mut known = [0u64; KNOWN_WORDS];
+    call(h, terms, runs, wire, &mut known, cache, c)
 }

@@ -5,3 +5,4 @@ pub mod Size
 pub mod Empty
 pub mod Grown
 pub mod Within
+pub mod Parts

@@ -21,6 +21,10 @@ clear ws k (suc n) = not (marked ws k) && clear ws (k + 1) n
 unfoldable pub within : List ℕ → ℕ → Bool
 within ws bound = clear ws bound (64 * length ws - bound)
 
+-- the same as a statement
+abbrev pub Below : ℕ → List ℕ → Type 0
+Below bound ws = (i : ℕ) → marked ws i ≡ true → i < bound
+
 -- ---- what the test says
 
 clear-is : (ws : List ℕ) (k n : ℕ) → clear ws k n ≡ true → (i : ℕ) → k ≤ i → i < k + n → marked ws i ≡ false
@@ -34,7 +38,7 @@ clear-is ws k (suc n) e i ge lt =
     by-eq here later (yes q) = rw q here
     by-eq here later (no ne) = later (omega arith)
 
-pub within-is : (ws : List ℕ) (bound : ℕ) → within ws bound ≡ true → (i : ℕ) → marked ws i ≡ true → i < bound
+pub within-is : (ws : List ℕ) (bound : ℕ) → within ws bound ≡ true → Below bound ws
 unfolding within
 within-is ws bound e i m = by-lt (decLt i bound)
   where
@@ -49,7 +53,7 @@ within-is ws bound e i m = by-lt (decLt i bound)
     by-lt (yes lt) = lt
     by-lt (no ge) = absurd (by-width (decLt i (64 * length ws)) (omega arith))
 
-is-clear : (ws : List ℕ) (bound : ℕ) → ((i : ℕ) → marked ws i ≡ true → i < bound) → (k n : ℕ) → bound ≤ k → clear ws k n ≡ true
+is-clear : (ws : List ℕ) (bound : ℕ) → Below bound ws → (k n : ℕ) → bound ≤ k → clear ws k n ≡ true
 unfolding clear
 is-clear ws bound all k zero ge = refl
 is-clear ws bound all k (suc n) ge = by-mark (marked ws k) refl (is-clear ws bound all (k + 1) n (omega arith))
@@ -58,7 +62,7 @@ is-clear ws bound all k (suc n) ge = by-mark (marked ws k) refl (is-clear ws bou
     by-mark true m e = absurd (omega (arith, all k m))
     by-mark false m e = e
 
-pub is-within : (ws : List ℕ) (bound : ℕ) → ((i : ℕ) → marked ws i ≡ true → i < bound) → within ws bound ≡ true
+pub is-within : (ws : List ℕ) (bound : ℕ) → Below bound ws → within ws bound ≡ true
 unfolding within
 is-within ws bound all = is-clear ws bound all bound (64 * length ws - bound) (omega arith)
 

@@ -1,16 +1,17 @@
 // Packed sets of small numbers: number i is bit i % 64 of word i / 64. A set of terms is 8 words.
 ghost use mathlib.Core.Path.{_≡_};
-ghost use Prim.Native.Nat.{_<_};
+ghost use Prim.Native.Nat.{_+_, _*_, _<_, _≤_};
 ghost use lib.ListN.{length};
+ghost use lib.Seq.{paste};
 ghost use Rattle.marks.specs.Marks.{Words, isSet, marked, withMark, size};
 ghost use Rattle.marks.specs.Within.{within};
 
 // How many numbers a set of 8 words has places for.
 pub const PLACES: usize = 512;
 
-// Whether i is in a lent set. The caller knows that it has 8 words and that i has a place.
+// Whether i is in a lent set. The caller knows that i has a place in it.
 pub fn is_marked(set: &[u64], i: usize) -> bool
-    requires { ⌜ (length (now set) ≡ 8) × (i < 512) ⌝ }
+    requires { ⌜ i < 64 * length (now set) ⌝ }
     ensures { λ r. ⌜ r ≡ marked (now (set .entry)) i ⌝ }
 {
     set[i / 64] >> (i % 64) & 1 == 1
@@ -38,9 +39,9 @@ pub fn with(set: [u64; 8], i: usize) -> [u64; 8]
     s
 }
 
-// Puts i into a lent set. The caller knows that it has 8 words and that i has a place.
+// Puts i into a lent set. The caller knows that i has a place in it.
 pub fn mark(set: &mut [u64], i: usize)
-    requires { ⌜ (length (now set) ≡ 8) × (i < 512) ⌝ }
+    requires { ⌜ i < 64 * length (now set) ⌝ }
     ensures { λ _. ⌜ now (set .exit) ≡ withMark (now (set .entry)) i ⌝ }
 {
     set[i / 64] = set[i / 64] | 1 << (i % 64);
@@ -74,6 +75,18 @@ pub fn load(set: &[u64]) -> [u64; 8]
         set[6],
         set[7],
     ]
+}
+
+// Writes a set by value into a lent list, from a place on. The caller knows that there is room for 8 words.
+pub fn store(list: &mut [u64], at: usize, words: [u64; 8])
+    requires { ⌜ at + 8 ≤ length (now list) ⌝ }
+    ensures { λ _. ⌜ now (list .exit) ≡ paste (now (list .entry)) at words 8 ⌝ }
+{
+    let mut k: usize = 0;
+    while k < 8 {
+        list[at + k] = words[k];
+        k += 1;
+    }
 }
 
 // Whether the flags mark principal p: bit p is set.

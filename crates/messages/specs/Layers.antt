@@ -16,7 +16,6 @@ use Rattle.drafts.specs.declared.Layer.{Layer}
 use Rattle.drafts.specs.declared.Layer.the-variants as layer
 use Rattle.drafts.specs.declared.Node.{Node}
 use Rattle.drafts.specs.declared.Node.the-variants as node
-use Rattle.messages.specs.declared.plan.Plan.{Plan}
 use Rattle.words.specs.declared.Term.the-variants.{Pair, Encrypted}
 use Rattle.drafts.specs.Draft.{keyName, nodeMessage, nodeFits, keyFits, layerOf, wordOfKey}
 use Rattle.terms.specs.Message.{Key, Message, key, pair, encrypted}
@@ -24,7 +23,7 @@ use Rattle.terms.specs.Number.{keyWord, wordIn, numberIn}
 use Rattle.terms.specs.Valid.{Terms}
 use Rattle.words.specs.Word.{wordOf}
 use Rattle.messages.specs.Entered.{withWord, entered}
-use Rattle.messages.specs.Plan.{known, noted, NoteIs}
+use Rattle.messages.specs.Plan.{joined, noted, NoteIs}
 use Rattle.messages.specs.Standing.{Standing, EnteredIs, Longer, standing-longer, standing-number}
 
 -- ---- properties of `noted`
@@ -61,9 +60,9 @@ pub note-longer : {n : ℕ} {xs ys : List ℕ} → Terms n xs (length xs) → Lo
 note-longer v x m zero s = tt
 note-longer v x m (suc i) s = standing-longer v x s
 
-pub known-small : (ts : List ℕ) (count : ℕ) (p : Plan) → length (known ts count p) ≤ count + p .count
-known-small ts count p =
-    omega (arith, length-append (take count ts) (take (p .count) (p .words)), take-le count ts, take-le (p .count) (p .words))
+pub joined-small : (ts : List ℕ) (count : ℕ) (words : List ℕ) (planned : ℕ) → length (joined ts count words planned) ≤ count + planned
+joined-small ts count words planned =
+    omega (arith, length-append (take count ts) (take planned words), take-le count ts, take-le planned words)
   where
     take-le : (m : ℕ) (l : List ℕ) → length (take m l) ≤ m
     take-le m l = simp length-take (omega arith)

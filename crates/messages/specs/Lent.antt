@@ -12,7 +12,6 @@ use lib.ListN.{length, take, drop, getD-replicate}
 use Rattle.drafts.specs.declared.Node.{Node}
 use Rattle.messages.specs.declared.lent.Stored.{Stored}
 use Rattle.messages.specs.declared.lent.Stored.the-variants.{At, Refused}
-use Rattle.messages.specs.declared.plan.Plan.{Plan}
 use Rattle.drafts.specs.Draft.{draftMessage, draftFits}
 use Rattle.terms.specs.Meaning.{messageAt}
 use Rattle.terms.specs.Message.{Message}
@@ -20,7 +19,8 @@ use Rattle.terms.specs.Number.{numberIn, termsOf, terms-list}
 use Rattle.terms.specs.Outcome.{TermOutcome, accept, refuse}
 use Rattle.terms.specs.Valid.{holds, holds-valid}
 use Rattle.messages.specs.Entered.{entered}
-use Rattle.messages.specs.Plan.{known, drafted, Ready, NodePlanned, withPlan, known-length, emptyPlan}
+use Rattle.messages.specs.Plan.{Plan, known, drafted, Ready, NodePlanned, withPlan, emptyPlan}
+use Rattle.messages.specs.Planning.{known-length}
 
 -- ---- definitions
 
@@ -47,24 +47,26 @@ addMessageOf n ts count draft root =
 
 -- ---- the start of a plan
 
-pub known-fresh : (ts : List ℕ) (count : ℕ) {p : Plan} → p ≡ emptyPlan → known ts count p ≡ termsOf ts count
-known-fresh ts count f = ap (known ts count) f ∙ append-nil (take count ts)
-
-pub start-ready : {n : ℕ} {ts : List ℕ} {count : ℕ} {draft : List Node} {p : Plan} → n ≤ 65536 → holds n ts count ≡ true → draftFits n count draft ≡ true
-    → p ≡ emptyPlan → Ready ts count draft p
-start-ready {n} {ts} {count} small h fits f =
+pub start-ready : {n : ℕ} {ts : List ℕ} {count : ℕ} {draft : List Node} {words : List ℕ} → n ≤ 65536 → holds n ts count ≡ true → draftFits n count draft ≡ true
+    → length words ≡ 32 → Ready ts count draft (emptyPlan words)
+start-ready {n} {ts} {count} small h fits places =
     let v = holds-valid n ts count h in
-    rw f
-    (record {
+    record {
       n = n;
       small = small;
       table = v;
       fits = fits;
       terms = rw append-nil (terms-list v);
+      places = places;
       size = refl;
       room = omega arith;
       notes = λ j lt. rw (getD-replicate {A = ℕ} 16 j 0 0) tt;
-    })
+    }
+
+-- planning a node then is entering its message into the terms of the table
+pub start-planned : {ts : List ℕ} {count : ℕ} {draft : List Node} {k : ℕ} {words : List ℕ} {number : ℕ} {q : Plan} → NodePlanned ts count draft k (emptyPlan words) number q
+    → known ts count q ≡ entered (termsOf ts count) (drafted ts draft k)
+start-planned {ts} {count} {draft} {k} planned = planned .terms ∙ ap (λ (xs : List ℕ). entered xs (drafted ts draft k)) (append-nil (take count ts))
 
 -- ---- by the way out
 
@@ -82,21 +84,19 @@ module _ (n : ℕ) (ts : List ℕ) (count : ℕ) (draft : List Node) (root : ℕ
     unfolding addMessageOf
     bad-draft h e = rw (held, lt-ltb root 16 h, e)
 
-    module _ (h : root < 16) (fits : draftFits n count draft ≡ true) {p : Plan} (f : p ≡ emptyPlan) {number : ℕ} {q : Plan}
-        (planned : NodePlanned ts count draft root p number q) (in-plan : q .count ≤ length (q .words)) where
+    module _ (h : root < 16) (fits : draftFits n count draft ≡ true) {words : List ℕ} {number : ℕ} {q : Plan}
+        (planned : NodePlanned ts count draft root (emptyPlan words) number q) where
       all : known ts count q ≡ entered (termsOf ts count) (drafted ts draft root)
-      all = planned .terms ∙ ap (λ (xs : List ℕ). entered xs (drafted ts draft root)) (known-fresh ts count f)
+      all = start-planned planned
 
       length-all : length (entered (termsOf ts count) (drafted ts draft root)) ≡ count + q .count
-      length-all =
-          let v = holds-valid n ts count held in
-          ap length (sym all) ∙ known-length ts count q 0 (omega (arith, v .size, v .room)) in-plan
+      length-all = ap length (sym all) ∙ known-length (planned .again)
 
       pub too-many : 512 < count + q .count → refuse 20 count ts ≡ addMessageOf n ts count draft root
       unfolding addMessageOf
       too-many lt = rw (held, lt-ltb root 16 h, fits, length-all, lt-leb (count + q .count) 512 lt)
 
-      pub all-fit : count + q .count ≤ 512 → accept number (count + q .count) (withPlan ts count q) ≡ addMessageOf n ts count draft root
+      pub all-fit : count + q .count ≤ 512 → accept number (count + q .count) (withPlan ts count (q .words) (q .count)) ≡ addMessageOf n ts count draft root
       unfolding addMessageOf
       all-fit le =
           rw (held, lt-ltb root 16 h, fits, length-all, le-leb (count + q .count) 512 le)

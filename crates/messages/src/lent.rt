@@ -1,6 +1,5 @@
 // The public call on a lent term table: any slice, any numbers, any draft, nothing required. A refused call leaves every
 // place as it was.
-use super::plan::fresh;
 use super::plan::plan_node;
 use super::plan::write_plan;
 use drafts::NODES;
@@ -39,13 +38,13 @@ pub fn add_message(
     if !draft_fits(draft, n, count) {
         return Stored::Refused(REFUSE_RANGE);
     }
-    let planned = plan_node(terms, count, draft, root, fresh());
-    let number = planned.number;
-    let plan = planned.plan;
-    let all = count + plan.count;
+    let mut words = [0u64; 32];
+    let mut numbers = [0u16; 16];
+    let planned = plan_node(terms, count, draft, root, &mut words, &mut numbers, 0);
+    let all = count + planned.count;
     if MAX_TERMS < all {
         return Stored::Refused(REFUSE_FULL);
     }
-    write_plan(terms, count, plan);
-    Stored::At(number, all)
+    write_plan(terms, count, &words, planned.count);
+    Stored::At(planned.number, all)
 }

@@ -1,8 +1,7 @@
 // Receiving: the steps that take a message, 3 to 6. A message is taken apart from the outside in; one that has not the
-// step's form gets 14.
+// step's form gets 14. Whether the intruder can deliver it, 15, is left open here.
 use conditions::REFUSE_TICKET;
 use conditions::admit;
-use conditions::can_deliver;
 use conditions::ticket_lives;
 use decisions::Verdict;
 use exchange::run::Row;
@@ -21,107 +20,96 @@ use verdicts::accepted;
 use verdicts::authenticated;
 use verdicts::finished;
 use verdicts::issued;
+ghost use mathlib.Core.List.{List};
 ghost use mathlib.Core.Path.{_≡_};
-ghost use Prim.Native.Nat.{_≤_};
-ghost use Rattle.conditions.specs.Conditions.{Askable};
+ghost use Prim.Native.Nat.{ℕ, _<_, _≤_};
+ghost use Rattle.terms.specs.Valid.{Valid};
+ghost use Rattle.conditions.specs.Conditions.{derivableAt};
 ghost use Rattle.decisions.specs.Decision.{issues, authenticates, takes, finishes};
+ghost use Rattle.receiving.specs.Pending.{settled};
 
 pub const REFUSE_RUNS_FULL: u8 = 13;
 
 pub const REFUSE_FORM: u8 = 14;
 
-pub const REFUSE_UNDERIVABLE: u8 = 15;
+// What a step comes to, where whether the intruder can deliver its message, 15, is still open.
+pub enum Pending {
+    // This, whatever he can build.
+    Settled(Verdict),
+    // This where he can build the message, else 15.
+    Asked(Verdict),
+}
 
 // Step 3: the server answers a request.
-pub fn issue(h: Realm, terms: &[u64], wire: &[u64], m: u16) -> Verdict
-    requires { ⌜ Askable h (now terms) (now wire) m ⌝ }
-    ensures { λ r. ⌜ r ≡ issues h (now (terms .entry)) (now (wire .entry)) m ⌝ }
+pub fn issue(h: Realm, terms: &[u64], m: u16) -> Pending
+    requires { ⌜ Valid (h .n) (now terms) (h .terms) × (m < h .terms) ⌝ }
+    ensures { λ r. ⌜ ((ws : List ℕ) → settled r (derivableAt h (now (terms .entry)) ws m) ≡ issues h (now (terms .entry)) ws m) ⌝ }
 {
     if MAX_RUNS <= h.runs {
-        return Verdict::Refused(REFUSE_RUNS_FULL);
+        return Pending::Settled(Verdict::Refused(REFUSE_RUNS_FULL));
     }
     let Request::Is { a, b, n } = open_request(terms, m) else {
-        return Verdict::Refused(REFUSE_FORM);
+        return Pending::Settled(Verdict::Refused(REFUSE_FORM));
     };
     if !((a != 0) & (b != 0) & (a != b)) {
-        return Verdict::Refused(REFUSE_FORM);
-    }
-    if !can_deliver(h, terms, wire, m) {
-        return Verdict::Refused(REFUSE_UNDERIVABLE);
+        return Pending::Settled(Verdict::Refused(REFUSE_FORM));
     }
     let r = h.runs as u8;
     let initiator = a as u8;
     let responder = b as u8;
-    issued(h.clock, r, initiator, responder, n)
+    Pending::Asked(issued(h.clock, r, initiator, responder, n))
 }
 
 // Step 4: the initiator takes the server's reply to its own request.
-pub fn authenticate(h: Realm, terms: &[u64], wire: &[u64], run: u8, own: Row, m: u16) -> Verdict
-    requires { ⌜ Askable h (now terms) (now wire) m ⌝ }
-    ensures { λ r. ⌜ r ≡ authenticates h (now (terms .entry)) (now (wire .entry)) run own m ⌝ }
+pub fn authenticate(h: Realm, terms: &[u64], run: u8, own: Row, m: u16) -> Pending
+    requires { ⌜ Valid (h .n) (now terms) (h .terms) × (m < h .terms) ⌝ }
+    ensures { λ r. ⌜ ((ws : List ℕ) → settled r (derivableAt h (now (terms .entry)) ws m) ≡ authenticates h (now (terms .entry)) ws run own m) ⌝ }
 {
     let Reply::Is { k, b, ts, n, a } = open_reply(terms, m) else {
-        return Verdict::Refused(REFUSE_FORM);
+        return Pending::Settled(Verdict::Refused(REFUSE_FORM));
     };
     if !((b == own.b as u16) & (n == run as u16) & (a == own.a as u16)) {
-        return Verdict::Refused(REFUSE_FORM);
-    }
-    if !can_deliver(h, terms, wire, m) {
-        return Verdict::Refused(REFUSE_UNDERIVABLE);
+        return Pending::Settled(Verdict::Refused(REFUSE_FORM));
     }
     if !ticket_lives(h, ts) {
-        return Verdict::Refused(REFUSE_TICKET);
+        return Pending::Asked(Verdict::Refused(REFUSE_TICKET));
     }
     let key = k as u8;
-    authenticated(h.clock, run, own, key, ts)
+    Pending::Asked(authenticated(h.clock, run, own, key, ts))
 }
 
 // Step 5: the responder takes a ticket and an authenticator.
-pub fn accept(
-    h: Realm,
-    terms: &[u64],
-    wire: &[u64],
-    cache: [Entry; 16],
-    run: u8,
-    own: Row,
-    m: u16,
-) -> Verdict
-    requires { ⌜ Askable h (now terms) (now wire) m × (h .entries ≤ 16) ⌝ }
-    ensures { λ r. ⌜ r ≡ takes h (now (terms .entry)) (now (wire .entry)) cache run own m ⌝ }
+pub fn accept(h: Realm, terms: &[u64], cache: [Entry; 16], run: u8, own: Row, m: u16) -> Pending
+    requires { ⌜ Valid (h .n) (now terms) (h .terms) × (m < h .terms) × (h .entries ≤ 16) ⌝ }
+    ensures { λ r. ⌜ ((ws : List ℕ) → settled r (derivableAt h (now (terms .entry)) ws m) ≡ takes h (now (terms .entry)) ws cache run own m) ⌝ }
 {
     let Delivery::Is { k, a, ts, b, ta } = open_delivery(terms, m) else {
-        return Verdict::Refused(REFUSE_FORM);
+        return Pending::Settled(Verdict::Refused(REFUSE_FORM));
     };
     if !((a == own.a as u16) & (b == own.b as u16)) {
-        return Verdict::Refused(REFUSE_FORM);
-    }
-    if !can_deliver(h, terms, wire, m) {
-        return Verdict::Refused(REFUSE_UNDERIVABLE);
+        return Pending::Settled(Verdict::Refused(REFUSE_FORM));
     }
     let number = admit(h, cache, ts, Entry { b, k, ta });
     if number != 0 {
-        return Verdict::Refused(number);
+        return Pending::Asked(Verdict::Refused(number));
     }
     let key = k as u8;
-    accepted(h.clock, run, own, key, ts, ta)
+    Pending::Asked(accepted(h.clock, run, own, key, ts, ta))
 }
 
 // Step 6: the initiator takes the responder's confirmation of its own values.
-pub fn finish(h: Realm, terms: &[u64], wire: &[u64], run: u8, own: Row, m: u16) -> Verdict
-    requires { ⌜ Askable h (now terms) (now wire) m ⌝ }
-    ensures { λ r. ⌜ r ≡ finishes h (now (terms .entry)) (now (wire .entry)) run own m ⌝ }
+pub fn finish(h: Realm, terms: &[u64], run: u8, own: Row, m: u16) -> Pending
+    requires { ⌜ Valid (h .n) (now terms) (h .terms) × (m < h .terms) ⌝ }
+    ensures { λ r. ⌜ ((ws : List ℕ) → settled r (derivableAt h (now (terms .entry)) ws m) ≡ finishes h (now (terms .entry)) ws run own m) ⌝ }
 {
     let Confirmation::Is { ta, k } = open_confirmation(terms, m) else {
-        return Verdict::Refused(REFUSE_FORM);
+        return Pending::Settled(Verdict::Refused(REFUSE_FORM));
     };
     if !((ta == own.ta) & (k == own.k as u16)) {
-        return Verdict::Refused(REFUSE_FORM);
-    }
-    if !can_deliver(h, terms, wire, m) {
-        return Verdict::Refused(REFUSE_UNDERIVABLE);
+        return Pending::Settled(Verdict::Refused(REFUSE_FORM));
     }
     if !ticket_lives(h, own.ts) {
-        return Verdict::Refused(REFUSE_TICKET);
+        return Pending::Asked(Verdict::Refused(REFUSE_TICKET));
     }
-    finished(h.clock, run, own)
+    Pending::Asked(finished(h.clock, run, own))
 }

@@ -14,11 +14,10 @@ use Rattle.terms.specs.Message.{Message}
 use Rattle.terms.specs.Number.{numberIn, termsOf, terms-list}
 use Rattle.terms.specs.Valid.{valid-holds}
 use Rattle.drafts.specs.declared.Node.{Node}
-use Rattle.messages.specs.declared.plan.Plan.{Plan}
 use Rattle.messages.specs.Entered.{entered}
-use Rattle.messages.specs.Lent.{over, start-ready, known-fresh}
-use Rattle.messages.specs.Plan.{known, drafted, Ready, NodePlanned, withPlan, known-length, emptyPlan}
-use Rattle.messages.specs.Planning.{few}
+use Rattle.messages.specs.Lent.{over, start-ready, start-planned}
+use Rattle.messages.specs.Plan.{Plan, known, drafted, Ready, NodePlanned, withPlan, emptyPlan}
+use Rattle.messages.specs.Planning.{few, known-length}
 use Rattle.messages.specs.Standing.{entered-is, longer-entered, standing-here, standing-longer}
 use Rattle.marks.specs.Marks.{withMark}
 use Rattle.sending.specs.declared.Marks.{Marks}
@@ -28,20 +27,19 @@ use Rattle.sending.specs.Entering.{number-longer}
 use Rattle.sending.specs.Send.{enteredAll, markedAll, fitsIn, MarksFit, markedBy, comes, Plannable, PlanFor, sent, refused, sending, sendOf}
 use Rattle.sending.specs.Accepted.{send-nothing}
 
-module _ {ts : List ℕ} {count : ℕ} {draft : List Node} {first last : ℕ} (s : Plannable ts count draft first last) {p : Plan} (f : p ≡ emptyPlan) where
-  pub ready : Ready ts count draft p
-  ready = start-ready (s .small) (valid-holds (s .table)) (s .fits) f
+module _ {ts : List ℕ} {count : ℕ} {draft : List Node} {first last : ℕ} (s : Plannable ts count draft first last) {words : List ℕ} where
+  pub ready : length words ≡ 32 → Ready ts count draft (emptyPlan words)
+  ready places = start-ready (s .small) (valid-holds (s .table)) (s .fits) places
 
-  module _ {i : ℕ} {q : Plan} (one : NodePlanned ts count draft first p i q) {j : ℕ} {r : Plan} (two : NodePlanned ts count draft last q j r)
-      (in-plan : r .count ≤ length (r .words)) where
+  module _ {i : ℕ} {q : Plan} (one : NodePlanned ts count draft first (emptyPlan words) i q) {j : ℕ} {r : Plan} (two : NodePlanned ts count draft last q j r) where
     half : known ts count q ≡ entered (termsOf ts count) (drafted ts draft first)
-    half = one .terms ∙ ap (λ (xs : List ℕ). entered xs (drafted ts draft first)) (known-fresh ts count f)
+    half = start-planned one
 
     all : known ts count r ≡ entered (entered (termsOf ts count) (drafted ts draft first)) (drafted ts draft last)
     all = two .terms ∙ ap (λ (xs : List ℕ). entered xs (drafted ts draft last)) half
 
     length-all : length (known ts count r) ≡ count + r .count
-    length-all = known-length ts count r 0 (omega (arith, s .table .size, s .table .room)) in-plan
+    length-all = known-length (two .again)
 
     -- both messages stand among the terms, each at the number that was planned for it
     record Numbers : Type 0 where
@@ -73,18 +71,19 @@ module _ {ts : List ℕ} {count : ℕ} {draft : List Node} {first last : ℕ} (s
           last-below = omega (arith, B .below);
         }
 
-    pub both-planned : PlanFor ts count (drafted ts draft first ∷ drafted ts draft last ∷ []) (record { plan = r; marks = Two i j })
+    pub both-planned : PlanFor ts count (drafted ts draft first ∷ drafted ts draft last ∷ []) (r .words) (record { count = r .count; marks = Two i j })
     unfolding sendOf
     both-planned =
         record {
+          places = two .again .places;
           few = few (two .again);
           marks = λ le. (omega (arith, numbers .first-below), omega (arith, numbers .last-below));
           sends = λ ws.
               subst
-              (λ (xs : List ℕ). comes ts ws count (record { plan = r; marks = Two i j })
+              (λ (xs : List ℕ). comes ts ws count (r .words) (record { count = r .count; marks = Two i j })
               ≡ sending ts ws xs (drafted ts draft first ∷ drafted ts draft last ∷ [])) all
               (rw length-all
-              (ap₂ (λ (x y : ℕ). comes ts ws count (record { plan = r; marks = Two x y })) (numbers .first-is) (numbers .last-is)));
+              (ap₂ (λ (x y : ℕ). comes ts ws count (r .words) (record { count = r .count; marks = Two x y })) (numbers .first-is) (numbers .last-is)));
         }
 
 -- ---- the marks of a plan
@@ -101,9 +100,10 @@ none-marked e ws = rw e
 
 -- where nothing is sent nothing is planned
 module _ (ts : List ℕ) (count : ℕ) (size : length ts ≡ 512) (room : count ≤ 512) where
-  pub nothing-planned : PlanFor ts count [] (record { plan = emptyPlan; marks = Nothing })
-  nothing-planned =
+  pub nothing-planned : {words : List ℕ} → length words ≡ 32 → PlanFor ts count [] words (record { count = 0; marks = Nothing })
+  nothing-planned places =
       record {
+        places = places;
         few = omega arith;
         marks = λ le. tt;
         sends = λ ws. rw (add-zero, append-nil, take-append-drop, le-leb count 512 room) (sym (send-nothing ts ws count size room));
@@ -123,16 +123,16 @@ same-room true false k us vs k′ us′ vs′ ts ws e = let z : _≡_ {A = ℕ} 
 same-room false true k us vs k′ us′ vs′ ts ws e = let z : _≡_ {A = ℕ} 0 1 = cc in absurd (omega arith)
 same-room false false k us vs k′ us′ vs′ ts ws e = refl
 
-module _ {ts : List ℕ} {count : ℕ} {ms : List Message} {r : Prepared} (p : PlanFor ts count ms r) where
+module _ {ts : List ℕ} {count : ℕ} {ms : List Message} {words : List ℕ} {r : Prepared} (p : PlanFor ts count ms words r) where
   -- it is too long exactly where the new terms do not all fit
-  pub room-known : leb (count + r .plan .count) 512 ≡ fitsIn ts count ms
+  pub room-known : leb (count + r .count) 512 ≡ fitsIn ts count ms
   unfolding sendOf
   room-known =
       let xs = enteredAll (termsOf ts count) ms in
-      same-room (leb (count + r .plan .count) 512) (fitsIn ts count ms) (count + r .plan .count) (withPlan ts count (r .plan)) (markedBy (r .marks) []) (length xs)
+      same-room (leb (count + r .count) 512) (fitsIn ts count ms) (count + r .count) (withPlan ts count words (r .count)) (markedBy (r .marks) []) (length xs)
       (over xs ts) (markedAll [] xs ms) ts [] (p .sends [])
 
-  pub plan-sent : count + r .plan .count ≤ 512 → (ws : List ℕ)
-      → sent (count + r .plan .count) (withPlan ts count (r .plan)) (markedBy (r .marks) ws) ≡ sendOf ts ws count ms
-  plan-sent le ws = subst (λ (b : Bool). cond b (sent (count + r .plan .count) (withPlan ts count (r .plan)) (markedBy (r .marks) ws)) (refused 20 ts ws) ≡ sendOf ts ws count ms)
-      (le-leb (count + r .plan .count) 512 le) (p .sends ws)
+  pub plan-sent : count + r .count ≤ 512 → (ws : List ℕ)
+      → sent (count + r .count) (withPlan ts count words (r .count)) (markedBy (r .marks) ws) ≡ sendOf ts ws count ms
+  plan-sent le ws = subst (λ (b : Bool). cond b (sent (count + r .count) (withPlan ts count words (r .count)) (markedBy (r .marks) ws)) (refused 20 ts ws) ≡ sendOf ts ws count ms)
+      (le-leb (count + r .count) 512 le) (p .sends ws)

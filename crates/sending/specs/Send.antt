@@ -68,17 +68,18 @@ abbrev pub markedBy : Marks → List ℕ → List ℕ
 markedBy (Two first last) ws = withMark (withMark ws first) last
 markedBy Nothing ws = ws
 
--- what comes of writing a plan, unless it is too long
-abbrev pub comes : (ts ws : List ℕ) (count : ℕ) → Prepared → Sending
-comes ts ws count r =
-    let all = count + r .plan .count in
-    cond (leb all 512) (sent all (withPlan ts count (r .plan)) (markedBy (r .marks) ws)) (refused 20 ts ws)
+-- what comes of writing the planned words, unless they are too many
+abbrev pub comes : (ts ws : List ℕ) (count : ℕ) (words : List ℕ) → Prepared → Sending
+comes ts ws count words r =
+    let all = count + r .count in
+    cond (leb all 512) (sent all (withPlan ts count words (r .count)) (markedBy (r .marks) ws)) (refused 20 ts ws)
 
 -- a plan is for these messages: writing it is sending them
-pub record PlanFor (ts : List ℕ) (count : ℕ) (ms : List Message) (r : Prepared) : Type 0 where
-  pub few : r .plan .count ≤ 32
-  pub marks : count + r .plan .count ≤ 512 → MarksFit (r .marks)
-  pub sends : (ws : List ℕ) → comes ts ws count r ≡ sendOf ts ws count ms
+pub record PlanFor (ts : List ℕ) (count : ℕ) (ms : List Message) (words : List ℕ) (r : Prepared) : Type 0 where
+  pub places : length words ≡ 32
+  pub few : r .count ≤ 32
+  pub marks : count + r .count ≤ 512 → MarksFit (r .marks)
+  pub sends : (ws : List ℕ) → comes ts ws count words r ≡ sendOf ts ws count ms
 
 -- ---- what a call asks for
 

@@ -2,8 +2,6 @@
 // to be written is planned first, and the plan is written whole.
 use drafts::Node;
 use marks::mark;
-use messages::plan::Plan;
-use messages::plan::fresh;
 use messages::plan::plan_node;
 use messages::plan::write_plan;
 ghost use mathlib.Core.List.{[], _∷_};
@@ -21,47 +19,49 @@ pub enum Marks {
     Nothing,
 }
 
-// What sending writes: words behind the terms, and marks.
+// What sending writes beside the planned words: how many they are, and marks.
 pub struct Prepared {
-    pub plan: Plan,
+    pub count: usize,
     pub marks: Marks,
 }
 
-// Plans the messages of two nodes of a draft; a step that sends one message names its node twice.
+// Plans the messages of two nodes of a draft in `words`; a step that sends one message names its node twice.
 pub fn plan_messages(
     terms: &[u64],
     count: usize,
     draft: [Node; 16],
     first: usize,
     last: usize,
+    words: &mut [u64],
 ) -> Prepared
-    requires { ⌜ Plannable (now terms) count draft first last ⌝ }
-    ensures { λ r. ⌜ PlanFor (now (terms .entry)) count (draftMessage (messageAt (now (terms .entry))) draft first ∷ draftMessage (messageAt (now (terms .entry))) draft last ∷ []) r ⌝ }
+    requires { ⌜ Plannable (now terms) count draft first last × (length (now words) ≡ 32) ⌝ }
+    ensures { λ r. ⌜ PlanFor (now (terms .entry)) count (draftMessage (messageAt (now (terms .entry))) draft first ∷ draftMessage (messageAt (now (terms .entry))) draft last ∷ []) (now (words .exit)) r ⌝ }
 {
-    let none = fresh();
-    let one = plan_node(terms, count, draft, first, none);
-    let number = one.number;
-    let half = one.plan;
-    let two = plan_node(terms, count, draft, last, half);
-    let other = two.number;
-    let plan = two.plan;
+    let mut numbers = [0u16; 16];
+    let one = plan_node(terms, count, draft, first, words, &mut numbers, 0);
+    let two = plan_node(terms, count, draft, last, words, &mut numbers, one.count);
     Prepared {
-        plan,
+        count: two.count,
         marks: Marks::Two {
-            first: number,
-            last: other,
+            first: one.number,
+            last: two.number,
         },
     }
 }
 
 // Writes what was planned.
-pub fn write_messages(terms: &mut [u64], wire: &mut [u64], count: usize, prepared: Prepared)
-    requires { ⌜ (length (now terms) ≡ 512) × (length (now wire) ≡ 8) × (count + prepared .plan .count ≤ 512) × (prepared .plan .count ≤ 32) × MarksFit (prepared .marks) ⌝ }
-    ensures { λ _. ⌜ (now (terms .exit) ≡ withPlan (now (terms .entry)) count (prepared .plan)) × (now (wire .exit) ≡ markedBy (prepared .marks) (now (wire .entry))) ⌝ }
+pub fn write_messages(
+    terms: &mut [u64],
+    wire: &mut [u64],
+    count: usize,
+    words: &[u64],
+    prepared: Prepared,
+)
+    requires { ⌜ (length (now terms) ≡ 512) × (length (now wire) ≡ 8) × (count + prepared .count ≤ 512) × (prepared .count ≤ length (now words)) × MarksFit (prepared .marks) ⌝ }
+    ensures { λ _. ⌜ (now (terms .exit) ≡ withPlan (now (terms .entry)) count (now (words .entry)) (prepared .count)) × (now (wire .exit) ≡ markedBy (prepared .marks) (now (wire .entry))) ⌝ }
 {
-    let plan = prepared.plan;
     let marks = prepared.marks;
-    write_plan(terms, count, plan);
+    write_plan(terms, count, words, prepared.count);
     if let Marks::Two { first, last } = marks {
         mark(wire, first as usize);
         mark(wire, last as usize);

@@ -4,7 +4,6 @@ use Prim.Native.Nat.{ℕ, _<_, _≤_}
 use native.Mathlib.Decide.{decLt}
 use native.Mathlib.Omega.{arith}
 use mathlib.Core.Bool.{true, false}
-use mathlib.Core.List.{List}
 use mathlib.Core.Logic.{inl, inr}
 use mathlib.Core.Path.{_≡_, refl, subst}
 use borrow.Author.Tests.{lt-ltb, le-ltb, le-leb, lt-leb, eq-eqb, ne-eqb}
@@ -18,13 +17,13 @@ use Rattle.realm.specs.declared.header.Realm.{Realm}
 use Rattle.realm.specs.declared.input.Step.{Step}
 use Rattle.realm.specs.Fields.{Range, in-range}
 use Rattle.realm.specs.Input.{usesTable, usesOf, inRange, inputRefusal, passed}
-use Rattle.realm.specs.Tables.{Tables, Together}
-use Rattle.conditions.specs.Conditions.{Askable, derivableAt}
+use Rattle.realm.specs.Tables.{Tables}
+use Rattle.conditions.specs.Conditions.{derivableAt}
 use Rattle.decisions.specs.declared.Sends.{Sends}
 use Rattle.decisions.specs.declared.Sends.the-variants.{Request, Nothing}
 use Rattle.decisions.specs.declared.Verdict.the-variants.{Takes, Refused}
 use Rattle.decisions.specs.Effects.{opening, nothing, forgetting, leaking}
-use Rattle.decisions.specs.Decision.{issues, authenticates, takes, finishes, opensRun, ticks, queries, stepOf, decided}
+use Rattle.decisions.specs.Decision.{need, issues, authenticates, takes, finishes, opensRun, ticks, queries, stepOf, decided}
 use Rattle.steps.specs.Named.{NamesRun, Named}
 
 -- ---- steps 1 and 2
@@ -49,17 +48,6 @@ module _ (h : Realm) (t : ℕ) where
   unfolding ticks
   clock-set p = rw (le-leb (h .clock) t p)
 
--- ---- step 10
-
-module _ (h : Realm) (ts ws : List ℕ) (m : ℕ) where
-  pub query-denied : derivableAt h ts ws m ≡ false → Refused 15 ≡ queries h ts ws m
-  unfolding queries
-  query-denied p = rw p
-
-  pub query-granted : derivableAt h ts ws m ≡ true → Takes (nothing (h .clock)) ≡ queries h ts ws m
-  unfolding queries
-  query-granted p = rw p
-
 -- ---- the fields of a step that passes
 
 -- they are in range
@@ -77,10 +65,9 @@ named-run-below {h} {s} n = by (n .names)
     by (inr (inr (inl e))) = range h s (n .passes) 6 e .run refl
     by (inr (inr (inr e))) = range h s (n .passes) 9 e .run refl
 
--- its message can be asked for
-pub delivers : {t : Tables} → Together t → (s : Step) → inputRefusal (t .realm) s ≡ 0 → (k : ℕ) → s .step ≡ k → usesOf k .m ≡ true
-    → Askable (t .realm) (t .terms) (t .wire) (s .m)
-delivers {t} w s passes k e p = record { terms = w .terms-hold; wire = w .wire-words; below = range (t .realm) s passes k e .m p }
+-- its message is present
+pub message-below : (h : Realm) (s : Step) → inputRefusal h s ≡ 0 → (k : ℕ) → s .step ≡ k → usesOf k .m ≡ true → s .m < h .terms
+message-below h s passes k e p = range h s passes k e .m p
 
 -- ---- the steps that name a run
 
@@ -146,8 +133,8 @@ module _ (t : Tables) (s : Step) where
   unfolding stepOf
   step-8 e = rw e
 
-  pub step-10 : s .step ≡ 10 → queries (t .realm) (t .terms) (t .wire) (s .m) ≡ stepOf t s
-  unfolding stepOf
+  pub step-10 : s .step ≡ 10 → need (derivableAt (t .realm) (t .terms) (t .wire) (s .m)) 15 (Takes (nothing (t .realm .clock))) ≡ stepOf t s
+  unfolding stepOf queries
   step-10 e = rw e
 
 -- ---- the refusals of the fields

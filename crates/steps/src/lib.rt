@@ -1,6 +1,5 @@
-// A step by its row of the step table: its fields, the run that it names, its message, and what it does. Whether its terms fit, 20, is
-// looked at after all this, by the crate above.
-use conditions::can_deliver;
+// A step by its row of the step table: its fields, the run that it names, its message, and what it does. Whether the intruder can deliver
+// its message, 15, and whether its terms fit, 20, is looked at by the crate above.
 use decisions::Keeping;
 use decisions::Sends;
 use decisions::Verdict;
@@ -10,8 +9,8 @@ use exchange::run::Role;
 use realm::header::Realm;
 use realm::input::Step;
 use realm::input::input_refusal;
+use receiving::Pending;
 use receiving::REFUSE_RUNS_FULL;
-use receiving::REFUSE_UNDERIVABLE;
 use receiving::accept;
 use receiving::authenticate;
 use receiving::finish;
@@ -22,10 +21,9 @@ use rows::run_at;
 use verdicts::opened;
 use verdicts::rest;
 ghost use mathlib.Core.Path.{_≡_};
-ghost use Rattle.conditions.specs.Conditions.{Askable};
-ghost use Rattle.decisions.specs.Decision.{opensRun, ticks, queries, stepOf, decided};
-ghost use Rattle.steps.specs.Named.{Named};
-ghost use Rattle.realm.specs.Tables.{tables, Together};
+ghost use Rattle.realm.specs.Tables.{tables};
+ghost use Rattle.decisions.specs.Decision.{opensRun, ticks, stepOf, decided};
+ghost use Rattle.steps.specs.Named.{Named, Holding, Pends};
 
 pub const REFUSE_STAGE: u8 = 11;
 
@@ -52,87 +50,55 @@ fn tick(h: Realm, t: u32) -> Verdict
     rest(t, Keeping::Same, Sends::Nothing, Names::Nobody)
 }
 
-// Step 10.
-fn query(h: Realm, terms: &[u64], wire: &[u64], m: u16) -> Verdict
-    requires { ⌜ Askable h (now terms) (now wire) m ⌝ }
-    ensures { λ r. ⌜ r ≡ queries h (now (terms .entry)) (now (wire .entry)) m ⌝ }
-{
-    if !can_deliver(h, terms, wire, m) {
-        return Verdict::Refused(REFUSE_UNDERIVABLE);
-    }
-    rest(h.clock, Keeping::Same, Sends::Nothing, Names::Nobody)
-}
-
 // The steps that name a run: 4, 5, 6 and 9.
-fn with_run(
-    h: Realm,
-    terms: &[u64],
-    runs: &[u32],
-    wire: &[u64],
-    cache: [Entry; 16],
-    s: Step,
-) -> Verdict
-    requires { ⌜ Together (tables h (now terms) (now runs) (now wire) cache) × Named h s ⌝ }
-    ensures { λ r. ⌜ r ≡ stepOf (tables h (now (terms .entry)) (now (runs .entry)) (now (wire .entry)) cache) s ⌝ }
+fn with_run(h: Realm, terms: &[u64], runs: &[u32], cache: [Entry; 16], s: Step) -> Pending
+    requires { ⌜ Holding h (now terms) (now runs) cache × Named h s ⌝ }
+    ensures { λ r. ⌜ Pends h (now (terms .entry)) (s .m) r (λ ws. stepOf (tables h (now (terms .entry)) (now (runs .entry)) ws cache) s) ⌝ }
 {
     let step = s.step;
     let run = s.run;
     let own = run_at(runs, run as usize);
     if !fits(step, own) {
-        return Verdict::Refused(REFUSE_STAGE);
+        return Pending::Settled(Verdict::Refused(REFUSE_STAGE));
     }
     match step {
-        4 => authenticate(h, terms, wire, run, own, s.m),
-        5 => accept(h, terms, wire, cache, run, own, s.m),
-        6 => finish(h, terms, wire, run, own, s.m),
-        _ => rest(
-            h.clock,
-            Keeping::Same,
-            Sends::Key(run as u16),
-            Names::Run(run),
-        ),
+        4 => authenticate(h, terms, run, own, s.m),
+        5 => accept(h, terms, cache, run, own, s.m),
+        6 => finish(h, terms, run, own, s.m),
+        _ => {
+            let sends = Sends::Key(run as u16);
+            Pending::Settled(rest(h.clock, Keeping::Same, sends, Names::Run(run)))
+        }
     }
 }
 
-// What a step does, 20 apart. The tables hold together.
-pub fn by_row(
-    h: Realm,
-    terms: &[u64],
-    runs: &[u32],
-    wire: &[u64],
-    cache: [Entry; 16],
-    s: Step,
-) -> Verdict
-    requires { ⌜ Together (tables h (now terms) (now runs) (now wire) cache) ⌝ }
-    ensures { λ r. ⌜ r ≡ decided (tables h (now (terms .entry)) (now (runs .entry)) (now (wire .entry)) cache) s ⌝ }
+// What a step does, 15 and 20 apart. The tables hold together.
+pub fn by_row(h: Realm, terms: &[u64], runs: &[u32], cache: [Entry; 16], s: Step) -> Pending
+    requires { ⌜ Holding h (now terms) (now runs) cache ⌝ }
+    ensures { λ r. ⌜ Pends h (now (terms .entry)) (s .m) r (λ ws. decided (tables h (now (terms .entry)) (now (runs .entry)) ws cache) s) ⌝ }
 {
     let number = input_refusal(h, s);
     if number != 0 {
-        return Verdict::Refused(number);
+        return Pending::Settled(Verdict::Refused(number));
     }
     let step = s.step;
     match step {
-        1 => begin(
-            h,
-            Role::Initiator,
-            s.a,
-            s.b,
-            Sends::Request {
+        1 => {
+            let sends = Sends::Request {
                 a: s.a as u16,
                 b: s.b as u16,
                 n: h.runs as u16,
-            },
-        ),
-        2 => begin(h, Role::Responder, s.a, s.b, Sends::Nothing),
-        3 => issue(h, terms, wire, s.m),
-        7 => tick(h, s.t),
-        8 => rest(
-            h.clock,
-            Keeping::Forget(s.b as u16),
-            Sends::Nothing,
-            Names::Nobody,
-        ),
-        10 => query(h, terms, wire, s.m),
-        _ => with_run(h, terms, runs, wire, cache, s),
+            };
+            Pending::Settled(begin(h, Role::Initiator, s.a, s.b, sends))
+        }
+        2 => Pending::Settled(begin(h, Role::Responder, s.a, s.b, Sends::Nothing)),
+        3 => issue(h, terms, s.m),
+        7 => Pending::Settled(tick(h, s.t)),
+        8 => {
+            let keeping = Keeping::Forget(s.b as u16);
+            Pending::Settled(rest(h.clock, keeping, Sends::Nothing, Names::Nobody))
+        }
+        10 => Pending::Asked(rest(h.clock, Keeping::Same, Sends::Nothing, Names::Nobody)),
+        _ => with_run(h, terms, runs, cache, s),
     }
 }

@@ -2,16 +2,15 @@
 -- Assumes nothing.
 use mathlib.Core.Path.{_≡_, refl, sym, _∙_, subst}
 use mathlib.Core.Logic.{_⊎_, inl, inr, ⊎-elim}
-use mathlib.Core.Bool.{Bool, true, false}
+use mathlib.Core.Bool.{true, false}
 use mathlib.Core.List.{List}
 use Prim.Native.Nat.{ℕ, _<_}
 use native.Mathlib.Omega.{arith}
 use lib.ListN.{getD}
-use Rattle.marks.specs.Grown.{Grown, grown-refl, grown-trans, grown-with}
-use Rattle.marks.specs.Marks.{Words, marked, withMark, marked-new}
+use Rattle.marks.specs.Marks.{marked}
 use Rattle.words.specs.declared.Term.{Term}
 use Rattle.words.specs.declared.Term.the-variants.{Principal, Time, Nonce, LongTermKey, SessionKey, Pair, Encrypted, Unknown}
-use Rattle.terms.specs.Choice.{Decides, proved, refuted, no-true}
+use Rattle.terms.specs.Choice.{Decides, no-true}
 use Rattle.terms.specs.Meaning.{keyOf, messageOf, messageAt, message-at, key-at}
 use Rattle.terms.specs.Message.{Message, key}
 use Rattle.terms.specs.Operands.{byOperands}
@@ -22,7 +21,7 @@ use Rattle.synthesis.specs.declared.compose.Operands.{Operands}
 use Rattle.synthesis.specs.declared.compose.Operands.the-variants.{Two, Atom}
 use Rattle.deduction.specs.Known.{Known, known-self}
 use Rattle.deduction.specs.Public.{Free, publicOf, public-free, free-public}
-use Rattle.deduction.specs.Synth.{Synth, of-known, synth-map}
+use Rattle.deduction.specs.Synth.{Synth, of-known}
 
 -- ---- definitions
 
@@ -33,12 +32,6 @@ operandsOf = byOperands Atom Two Two
 -- term t can be put together from the terms of the set ws
 abbrev pub Composable : (n flags : ℕ) (ts : List ℕ) (count : ℕ) (ws : List ℕ) (t : ℕ) → Type 0
 Composable n flags ts count ws t = Synth n flags (Known ts count ws) (messageAt ts t)
-
--- the answer ok on term t, and the set that came back
-pub record ComposedIs (n flags : ℕ) (ts : List ℕ) (count : ℕ) (ws : List ℕ) (t : ℕ) (ok : Bool) (ws′ : List ℕ) : Type 0 where
-  pub grown : Grown 8 ws ws′
-  pub only : (k : ℕ) → k < count → marked ws′ k ≡ true → Composable n flags ts count ws k
-  pub answer : Decides ok (Composable n flags ts count ws t)
 
 -- ---- putting together, by operands
 
@@ -116,72 +109,3 @@ module _ (flags : ℕ) {n : ℕ} {ts : List ℕ} {count : ℕ} (v : Valid n ts c
     -- a term that is not in the set takes both operands
     pub apart : marked ws t ≡ false → Composable n flags ts count ws t → Composable n flags ts count ws l × Composable n flags ts count ws r
     apart m y = ⊎-elim (λ k. absurd (unknown m k)) (λ z. z) (ways .3 (from y))
-
--- ---- the test's ways to its answer
-
-module _ (flags : ℕ) {n : ℕ} {ts : List ℕ} {count : ℕ} (v : Valid n ts count) {ws : List ℕ} (w : Words 8 ws) (t : ℕ) (h : t < count) where
-  -- the term is in the set
-  pub composed-known : marked ws t ≡ true → ComposedIs n flags ts count ws t true ws
-  composed-known m =
-      record {
-        grown = grown-refl w;
-        only = composable-known n flags ts count ws;
-        answer = proved (composable-known n flags ts count ws t h m);
-      }
-
-  -- it is not, and has no operands
-  pub composed-atom : marked ws t ≡ false → operandsOf (termAt ts t) ≡ Atom → (ok : Bool) → ok ≡ publicOf flags (termAt ts t)
-      → ComposedIs n flags ts count ws t ok ws
-  composed-atom m e ok p =
-      record { grown = grown-refl w; only = composable-known n flags ts count ws; answer = rw p (composable-atom flags v ws t h m e) }
-
-  module _ (l r : ℕ) (e : operandsOf (termAt ts t) ≡ Two l r) where
-    -- the first operand cannot be put together
-    pub composed-left-no : marked ws t ≡ false → {ok : Bool} {ws₁ : List ℕ} → ok ≡ false
-        → ComposedIs n flags ts count ws l ok ws₁ → ComposedIs n flags ts count ws t ok ws₁
-    composed-left-no m f a =
-        record {
-          grown = a .grown;
-          only = a .only;
-          answer = rw f (refuted (λ y. a .answer .no f (apart flags v ws t h l r e m y .0)));
-        }
-
-    module _ {ok₁ : Bool} {ws₁ : List ℕ} (p : ok₁ ≡ true) (a : ComposedIs n flags ts count ws l ok₁ ws₁) where
-      -- what the set after the first operand gives was there before it
-      back : (m : Message) → Synth n flags (Known ts count ws₁) m → Synth n flags (Known ts count ws) m
-      back =
-          synth-map n flags (Known ts count ws₁) (Known ts count ws)
-          (λ m k. subst (Synth n flags (Known ts count ws)) (k .is) (a .only (k .at) (k .below) (k .mark)))
-
-      forth : (m : Message) → Synth n flags (Known ts count ws) m → Synth n flags (Known ts count ws₁) m
-      forth =
-          synth-map n flags (Known ts count ws) (Known ts count ws₁)
-          (λ m k. of-known n flags (Known ts count ws₁) m (record { at = k .at; below = k .below; mark = a .grown .keeps (k .at) (k .mark); is = k .is }))
-
-      -- the second cannot
-      pub composed-right-no : marked ws t ≡ false → {ok : Bool} {ws₂ : List ℕ} → ok ≡ false
-          → ComposedIs n flags ts count ws₁ r ok ws₂ → ComposedIs n flags ts count ws t ok ws₂
-      composed-right-no m f b =
-          record {
-            grown = grown-trans (a .grown) (b .grown);
-            only = λ k hk q. back (messageAt ts k) (b .only k hk q);
-            answer = rw f (refuted (λ y. b .answer .no f (forth (messageAt ts r) (apart flags v ws t h l r e m y .1))));
-          }
-
-      -- both can
-      pub composed-both : {ok : Bool} {ws₂ : List ℕ} → ok ≡ true
-          → ComposedIs n flags ts count ws₁ r ok ws₂ → ComposedIs n flags ts count ws t true (withMark ws₂ t)
-      composed-both {ok} {ws₂} q₂ b =
-          record {
-            grown = grown-trans (grown-trans (a .grown) (b .grown)) (grown-with (b .grown .words) t t512);
-            only = λ k hk q.
-                ⊎-elim (λ i. subst (Composable n flags ts count ws) (sym i) all)
-                (λ q′. back (messageAt ts k) (b .only k hk q′)) (marked-new ws₂ t (omega (arith, b .grown .words .len)) k q);
-            answer = proved all;
-          }
-        where
-          t512 : t < 512
-          t512 = omega (arith, v .room)
-
-          all : Composable n flags ts count ws t
-          all = together flags v ws t h l r e (a .answer .yes p) (back (messageAt ts r) (b .answer .yes q₂))

@@ -4,4 +4,7 @@ pub mod Sweep
 pub mod Saturate
 pub mod Compose
 pub mod Test
+pub mod Knowledge
+pub mod Noted
+pub mod Growth
 pub mod Lent

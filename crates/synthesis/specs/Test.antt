@@ -95,21 +95,22 @@ module _ (flags : ℕ) {n : ℕ} {ts : List ℕ} {count : ℕ} (v : Valid n ts c
 -- ---- the whole test
 
 -- what can be put together from the saturated set is what can be derived
-pub decided : (flags : ℕ) {n : ℕ} {ts : List ℕ} {count : ℕ} (v : Valid n ts count) {ws ws₁ : List ℕ} (t : ℕ) {ok : Bool}
-    → Filled n flags ts count ws ws₁ → Decides ok (Composable n flags ts count ws₁ t) → Decides ok (Derivable n flags ts count ws t)
-decided flags {n} {ts} {count} v {ws} {ws₁} t f b =
-    record {
-      yes = λ q.
-          synth-derives n flags (Known ts count ws₁) (Known ts count ws)
-          (λ m k. subst (Derives n flags (Known ts count ws)) (k .is) (f .sound (k .at) (k .below) (k .mark))) (messageAt ts t) (b .yes q);
-      no = λ q d.
-          b .no q
-          (derives-synth flags ws₁ v (f .full) (λ m k. record { at = k .at; below = k .below; mark = f .holds (k .at) (k .below) (k .mark); is = k .is }) d);
-    }
+module _ (flags : ℕ) {n : ℕ} {ts : List ℕ} {count : ℕ} (v : Valid n ts count) {ws ws₁ : List ℕ} (f : Filled n flags ts count ws ws₁) (t : ℕ) where
+  pub composable-derives : Composable n flags ts count ws₁ t → Derivable n flags ts count ws t
+  composable-derives =
+      synth-derives n flags (Known ts count ws₁) (Known ts count ws)
+      (λ m k. subst (Derives n flags (Known ts count ws)) (k .is) (f .sound (k .at) (k .below) (k .mark))) (messageAt ts t)
+
+  pub derives-composable : Derivable n flags ts count ws t → Composable n flags ts count ws₁ t
+  derives-composable =
+      derives-synth flags ws₁ v (f .full) (λ m k. record { at = k .at; below = k .below; mark = f .holds (k .at) (k .below) (k .mark); is = k .is })
+
+  pub decided : {ok : Bool} → Decides ok (Composable n flags ts count ws₁ t) → Decides ok (Derivable n flags ts count ws t)
+  decided b = record { yes = λ q. composable-derives (b .yes q); no = λ q d. b .no q (derives-composable d) }
 
 pub test-decides : (flags : ℕ) {n : ℕ} {ts : List ℕ} {count : ℕ} (v : Valid n ts count) {ws : List ℕ} → Words 8 ws → (t : ℕ) → t < count
     → Decides (derivableOf flags ts count ws t) (Derivable n flags ts count ws t)
 unfolding derivableOf
 test-decides flags {ts = ts} {count} v {ws} w t h =
     let s = saturateOf flags ts count 513 ws in
-    decided flags v t (saturate-fills flags v 513 (fill-start flags v w) (omega arith)) (composes-decides flags v s t h)
+    decided flags v (saturate-fills flags v 513 (fill-start flags v w) (omega arith)) t (composes-decides flags v s t h)

@@ -1,16 +1,21 @@
-// Whether a term can be put together from known terms, and the whole test.
-use analysis::saturate::saturate;
+// Whether a term can be put together from what is known, and the whole test.
+use super::knowledge::FOUND;
+use super::knowledge::MISSED;
+use super::knowledge::is_of;
+use super::knowledge::note;
+use super::knowledge::restart;
 use deduction::Principals;
 use deduction::is_public;
-use marks::has;
-use marks::with;
+use marks::is_marked;
 use words::Term;
 use words::decode;
 ghost use mathlib.Core.Path.{_≡_};
 ghost use Prim.Native.Nat.{_<_};
 ghost use lib.ListN.{length};
 ghost use Rattle.terms.specs.Valid.{Valid};
-ghost use Rattle.synthesis.specs.Compose.{operandsOf, ComposedIs};
+ghost use Rattle.marks.specs.Within.{Below};
+ghost use Rattle.synthesis.specs.Compose.{operandsOf};
+ghost use Rattle.synthesis.specs.Knowledge.{wireIn, Kept, ComposedIs};
 ghost use Rattle.synthesis.specs.Test.{derivableOf};
 
 // A term's operands.
@@ -34,49 +39,45 @@ fn operands_of(t: Term) -> Operands
     }
 }
 
-// The test's answer, and the set with what was found to be within reach.
-pub struct Composed {
-    pub ok: bool,
-    pub set: [u64; 8],
-}
-
-// Whether term t can be put together from the terms of the set. Its operands are earlier terms. A term that was put
-// together once goes into the set, and the first that cannot be ends the test, so no term is taken apart twice.
-pub fn compose(terms: &[u64], count: usize, who: Principals, set: [u64; 8], t: usize) -> Composed
-    requires { ⌜ Valid (who .n) (now terms) count × (t < count) ⌝ }
-    ensures { λ r. ⌜ ComposedIs (who .n) (who .flags) (now (terms .entry)) count set t (r .ok) (r .set) ⌝ }
+// Whether term t can be derived. It is known, or it is put together from its operands, which are earlier terms. Each answer is noted, so
+// no term is taken apart twice.
+pub fn compose(terms: &[u64], count: usize, who: Principals, known: &mut [u64], t: usize) -> bool
+    requires { ⌜ Valid (who .n) (now terms) count × Kept (who .n) (who .flags) (now terms) count (now known) × (t < count) ⌝ }
+    ensures { λ r. ⌜ ComposedIs (who .n) (who .flags) (now (terms .entry)) count (wireIn (now (known .entry))) t r (now (known .entry)) (now (known .exit)) ⌝ }
 {
-    if has(set, t) {
-        return Composed { ok: true, set };
+    if is_marked(known, FOUND + t) {
+        return true;
+    }
+    if is_marked(known, MISSED + t) {
+        return false;
     }
     let term = decode(terms[t]);
     let Operands::Two(l, r) = operands_of(term) else {
-        let flags = who.flags;
-        return Composed {
-            ok: is_public(flags, term),
-            set,
-        };
+        let public = is_public(who.flags, term);
+        return note(known, t, public);
     };
-    let first = compose(terms, count, who, set, l as usize);
-    if !first.ok {
-        return first;
+    if !compose(terms, count, who, known, l as usize) {
+        return note(known, t, false);
     }
-    let mid = first.set;
-    let second = compose(terms, count, who, mid, r as usize);
-    if !second.ok {
-        return second;
-    }
-    let last = second.set;
-    let all = with(last, t);
-    Composed { ok: true, set: all }
+    let ok = compose(terms, count, who, known, r as usize);
+    note(known, t, ok)
 }
 
 // Whether the intruder can derive term t, with the set `wire` on the wire.
-pub fn derivable(terms: &[u64], count: usize, who: Principals, wire: &[u64], t: usize) -> bool
-    requires { ⌜ Valid (who .n) (now terms) count × (length (now wire) ≡ 8) × (t < count) ⌝ }
-    ensures { λ r. ⌜ r ≡ derivableOf (who .flags) (now (terms .entry)) count (now (wire .entry)) t ⌝ }
+pub fn derivable(
+    terms: &[u64],
+    count: usize,
+    who: Principals,
+    wire: &[u64],
+    known: &mut [u64],
+    t: usize,
+) -> bool
+    requires { ⌜ Valid (who .n) (now terms) count × (length (now wire) ≡ 8) × Below count (now wire) × Kept (who .n) (who .flags) (now terms) count (now known) × (t < count) ⌝ }
+    ensures { λ r. ⌜ (r ≡ derivableOf (who .flags) (now (terms .entry)) count (now (wire .entry)) t) × Kept (who .n) (who .flags) (now (terms .entry)) count (now (known .exit)) ⌝ }
 {
-    let known = saturate(terms, count, who, wire);
-    let composed = compose(terms, count, who, known, t);
-    composed.ok
+    if is_of(known, wire) {
+        return compose(terms, count, who, known, t);
+    }
+    restart(terms, count, who, wire, known);
+    compose(terms, count, who, known, t)
 }

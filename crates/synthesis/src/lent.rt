@@ -1,5 +1,6 @@
 // The public call on lent tables: any slices, any numbers, nothing required.
 use super::compose::derivable;
+use super::knowledge::KNOWN_WORDS;
 use deduction::Principals;
 use lent_terms::holds_together;
 use marks::is_within;
@@ -35,7 +36,8 @@ pub fn can_derive(terms: &[u64], count: usize, who: Principals, wire: &[u64], t:
     if count <= t {
         return Answer::Refused(REFUSE_RANGE);
     }
-    if derivable(terms, count, who, wire, t) {
+    let mut known = [0u64; KNOWN_WORDS];
+    if derivable(terms, count, who, wire, &mut known, t) {
         return Answer::Derivable;
     }
     Answer::Underivable

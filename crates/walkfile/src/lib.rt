@@ -16,6 +16,7 @@ use records::record::REFUSE_RECORD;
 use records::record::Record;
 use records::record::read_record;
 use replay::entry::EMPTY;
+use synthesis::knowledge::KNOWN_WORDS;
 ghost use mathlib.Core.Path.{_≡_};
 ghost use Prim.Native.Nat.{_≤_};
 ghost use lib.ListN.{length};
@@ -41,6 +42,7 @@ fn walk_records(h: Realm, mark: u16, file: &[u8], out: &mut [u8]) -> usize
     let mut terms = [0u64; 512];
     let mut runs = [0u32; 448];
     let mut wire = [0u64; 8];
+    let mut known = [0u64; KNOWN_WORDS];
     let mut cache = [EMPTY; 16];
     let mut realm = h;
     let mut at = header_width(mark);
@@ -54,7 +56,15 @@ fn walk_records(h: Realm, mark: u16, file: &[u8], out: &mut [u8]) -> usize
         else {
             break;
         };
-        let after = call(realm, &mut terms, &mut runs, &mut wire, cache, next_call);
+        let after = call(
+            realm,
+            &mut terms,
+            &mut runs,
+            &mut wire,
+            &mut known,
+            cache,
+            next_call,
+        );
         let answer = after.answer;
         end = write_call_line(out, end, number, next_call, answer);
         let next_realm = after.realm;

@@ -2,6 +2,7 @@
 -- Assumes nothing.
 use Prim.Native.Nat.{ℕ, _+_, _<_, _≤_}
 use mathlib.Core.Path.{_≡_, sym, ap}
+use mathlib.Core.List.{List}
 use native.Mathlib.Omega.{arith}
 use borrow.Author.Tests.{lt-leb, le-leb}
 use Rattle.sending.specs.declared.Prepared.{Prepared}
@@ -26,11 +27,11 @@ module _ (t : Tables) (s : Step) where
     pub can-send : Together t → CanSend (t .terms) (t .realm .terms) (x .sends)
     can-send w = record { n = t .realm .n; small = omega (arith, w .header-fits .most); table = w .terms-hold; writes = taken-fits t s w e .writes }
 
-    module _ {r : Prepared} (p : PlanFor (t .terms) (t .realm .terms) (messagesOf (x .sends)) r) where
-      pub decision-full : 512 < t .realm .terms + r .plan .count → Refused 20 ≡ decision t s
+    module _ {words : List ℕ} {r : Prepared} (p : PlanFor (t .terms) (t .realm .terms) (messagesOf (x .sends)) words r) where
+      pub decision-full : 512 < t .realm .terms + r .count → Refused 20 ≡ decision t s
       unfolding decision
-      decision-full lt = rw (e, ← room-known p, lt-leb (t .realm .terms + r .plan .count) 512 lt)
+      decision-full lt = rw (e, ← room-known p, lt-leb (t .realm .terms + r .count) 512 lt)
 
-      pub decision-taken : t .realm .terms + r .plan .count ≤ 512 → Takes x ≡ decision t s
+      pub decision-taken : t .realm .terms + r .count ≤ 512 → Takes x ≡ decision t s
       unfolding decision
-      decision-taken le = rw (e, ← room-known p, le-leb (t .realm .terms + r .plan .count) 512 le)
+      decision-taken le = rw (e, ← room-known p, le-leb (t .realm .terms + r .count) 512 le)

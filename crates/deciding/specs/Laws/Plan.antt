@@ -6,6 +6,7 @@ use mathlib.Core.Bool.{true}
 use mathlib.Core.List.{List, [], _∷_}
 use Prim.Native.Nat.{ℕ, _<_}
 use native.Mathlib.Omega.{arith}
+use lib.ListN.{length}
 use Rattle.drafts.specs.Draft.{draftMessage, draftFits}
 use Rattle.terms.specs.Meaning.{messageAt}
 use Rattle.terms.specs.Message.{Message}
@@ -13,8 +14,6 @@ use Rattle.drafts.specs.declared.Node.{Node}
 use Rattle.layouts.specs.Drafts.{REQUEST_ROOT, REPLY_ROOT, TICKET_ROOT, AUTHENTICATOR_ROOT, CONFIRMATION_ROOT, KEY_ROOT}
 use Rattle.layouts.specs.Promises.{request-at, reply-at, ticket-at, authenticator-at, confirmation-at, key-at}
 use Rattle.layouts.specs.Promises.{request-fits, issue-fits, authenticator-fits, confirmation-fits, key-fits}
-use Rattle.messages.specs.declared.plan.Plan.{Plan}
-use Rattle.messages.specs.Plan.{emptyPlan}
 use Rattle.sending.specs.declared.Marks.the-variants as marks
 use Rattle.sending.specs.declared.Prepared.{Prepared}
 use Rattle.sending.specs.Promises.{send-once, nothing-planned}
@@ -78,10 +77,10 @@ module _ (ts : List ℕ) (count : ℕ) where
 -- ---- once the roots are known
 
 module _ {ts : List ℕ} {count : ℕ} {x : Sends} (s : CanSend ts count x) where
-  pub none-planned : rootsOf x ≡ Nothing → {p : Plan} → p ≡ emptyPlan → PlanFor ts count (messagesOf x) (record { plan = p; marks = marks.Nothing })
-  none-planned h f =
+  pub none-planned : rootsOf x ≡ Nothing → {words : List ℕ} → length words ≡ 32 → PlanFor ts count (messagesOf x) words (record { count = 0; marks = marks.Nothing })
+  none-planned h places =
       let none : messagesOf x ≡ [] = subst (Laid ts count x) h (laid-out ts count x s) in
-      rw (f, none) (nothing-planned ts count (s .table .size) (s .table .room))
+      rw none (nothing-planned ts count (s .table .size) (s .table .room) places)
 
   module _ {first last : ℕ} (h : rootsOf x ≡ At first last) {draft : List Node} (laid : draft ≡ draftOf x) where
     says : Says ts count (messagesOf x) (draftOf x) first last
@@ -90,9 +89,10 @@ module _ {ts : List ℕ} {count : ℕ} {x : Sends} (s : CanSend ts count x) wher
     pub draft-plannable : Plannable ts count draft first last
     draft-plannable = subst (λ (d : List Node). Plannable ts count d first last) (sym laid) (says .can)
 
-    pub draft-planned : {r : Prepared} → PlanFor ts count (both ts draft first last) r → PlanFor ts count (messagesOf x) r
+    pub draft-planned : {words : List ℕ} {r : Prepared} → PlanFor ts count (both ts draft first last) words r → PlanFor ts count (messagesOf x) words r
     draft-planned p =
         record {
+          places = p .places;
           few = p .few;
           marks = p .marks;
           sends = λ ws. p .sends ws ∙ ap (λ (d : List Node). sendOf ts ws count (both ts d first last)) laid ∙ says .same ws;

@@ -46,21 +46,21 @@ module _ (t : Tables) (x : Effect) where
   bySending (sent count ts ws) = appliedWith t x count ts ws
   bySending (refused number ts ws) = refuse t number
 
-  module _ {r : Prepared} (f : Writable t x r) where
+  module _ {words : List ℕ} {r : Prepared} (f : Writable t x words r) where
     -- what the plan says is what the effect says
-    pub plan-applied : appliedWith t x (t .realm .terms + r .plan .count) (plans.withPlan (t .terms) (t .realm .terms) (r .plan)) (markedBy (r .marks) (t .wire)) ≡ applied t x
+    pub plan-applied : appliedWith t x (t .realm .terms + r .count) (plans.withPlan (t .terms) (t .realm .terms) words (r .count)) (markedBy (r .marks) (t .wire)) ≡ applied t x
     unfolding applied
     plan-applied =
-        let yes : fitsIn (t .terms) (t .realm .terms) (messagesOf (x .sends)) ≡ true = sym (room-known (f .plan)) ∙ le-leb (t .realm .terms + r .plan .count) 512 (f .room) in
+        let yes : fitsIn (t .terms) (t .realm .terms) (messagesOf (x .sends)) ≡ true = sym (room-known (f .plan)) ∙ le-leb (t .realm .terms + r .count) 512 (f .room) in
         ap bySending (plan-sent (f .plan) (f .room) (t .wire) ∙ send-room (t .terms) (t .wire) (t .realm .terms) (messagesOf (x .sends)) yes)
 
-    module _ {ts ws : List ℕ} (sent : (ts ≡ plans.withPlan (t .terms) (t .realm .terms) (r .plan)) × (ws ≡ markedBy (r .marks) (t .wire))) {rs : List ℕ} {opened : ℕ}
+    module _ {ts ws : List ℕ} (sent : (ts ≡ plans.withPlan (t .terms) (t .realm .terms) words (r .count)) × (ws ≡ markedBy (r .marks) (t .wire))) {rs : List ℕ} {opened : ℕ}
         (rows : (rs ≡ changed (t .realm .runs) (x .change) (t .runs)) × (opened ≡ runCount (t .realm .runs) (x .change))) {swept : Swept}
         (kept : swept ≡ cacheOf (t .realm) (t .cache) (x .keeping)) where
       pub all-applied : record {
-        answer = Ok (x .names) (r .plan .count);
-        tables = tables (realmAfter (t .realm) (x .clock) (t .realm .terms + r .plan .count) opened (swept .count)) ts rs ws (swept .places);
+        answer = Ok (x .names) (r .count);
+        tables = tables (realmAfter (t .realm) (x .clock) (t .realm .terms + r .count) opened (swept .count)) ts rs ws (swept .places);
       } ≡ applied t x
       all-applied =
-          let grown : appliedWith t x (t .realm .terms + r .plan .count) ts ws .answer ≡ Ok (x .names) (r .plan .count) = ap (Ok (x .names)) (omega arith) in
+          let grown : appliedWith t x (t .realm .terms + r .count) ts ws .answer ≡ Ok (x .names) (r .count) = ap (Ok (x .names)) (omega arith) in
           rw (← plan-applied, ← kept, sent .0, sent .1, rows .0, rows .1, grown)

@@ -1,20 +1,22 @@
 -- `receiving::issue` meets its contract: by the law for each way out. Assumes nothing.
 use mathlib.Core.Bool.{true, not, _&&_}
-use mathlib.Core.Path.{_≡_, sym, _∙_}
+use mathlib.Core.Path.{_≡_, sym, ap, _∙_}
 use native.Mathlib.Omega.{arith}
 use lib.Dec.{eqb}
 use borrow.Author.Tests.{not-true, not-false}
 use Rattle.terms.specs.Meaning.{messageAt}
 use Rattle.forms.specs.Forms.{requestIn}
 use Rattle.forms.specs.declared.Request.the-variants as requests
-use Rattle.receiving.specs.Laws.{no-room-to-issue, no-request, request-barred, request-underivable, request-taken, request-in-range}
+use Rattle.conditions.specs.Conditions.{derivableAt}
+use Rattle.decisions.specs.Decision.{need}
+use Rattle.receiving.specs.Laws.{no-room-to-issue, no-request, request-barred, request-asked, request-in-range}
 use borrow.Author.Needs.{needs}
 use Rattle.receiving.proofs.issue.Statement.{statement}
 use Rattle.receiving.proofs.issue.Tie as tie
 
 -- ---- what is known on the way
 
-is : (c : tie.After-a) → let a = c .before .before .before .before .before .before .before .args in let x = c .a .given .0 in
+is : (c : tie.After-a) → let a = c .before .before .before .before .before .before .args in let x = c .a .given .0 in
     requestIn (messageAt (a .terms .now) (a .m)) ≡ requests.Is (x .0) (x .1 .0) (x .1 .1 .0)
 is c = sym (c .before .before .open-request .ensures) ∙ c .a .given .1
 
@@ -24,55 +26,45 @@ apart c = not-false _ (c .if2 .left)
 -- ---- the needs
 
 returns : tie.Need-returns
-returns c = let a = c .before .before .before .before .args in no-room-to-issue (a .h) (a .terms .now) (a .wire .now) (a .m) (c .if1 .taken)
+returns c ws = let a = c .before .before .before .args in no-room-to-issue (a .h) (a .terms .now) ws (a .m) (c .if1 .taken)
 
 returns-2 : tie.Need-returns-2
-returns-2 c =
+returns-2 c ws =
     let e = c .before .before .before in
-    let a = e .before .before .before .before .args in
-    no-request (a .h) (a .terms .now) (a .wire .now) (a .m) (e .if1 .left) (sym (c .before .before .open-request .ensures) ∙ c .enum-told .given .1)
+    let a = e .before .before .before .args in
+    no-request (a .h) (a .terms .now) ws (a .m) (e .if1 .left) (sym (c .before .before .open-request .ensures) ∙ c .enum-told .given .1)
 
 returns-3 : tie.Need-returns-3
-returns-3 c =
+returns-3 c ws =
     let f = c .before .before in
     let e = f .before .before .before in
-    let a = e .before .before .before .before .args in
+    let a = e .before .before .before .args in
     let x = f .a .given .0 in
-    request-barred (a .h) (a .terms .now) (a .wire .now) (a .m) (e .if1 .left) (x .0) (x .1 .0) (x .1 .1 .0) (is f) (not-true _ (c .if2 .taken))
-
-returns-4 : tie.Need-returns-4
-returns-4 c =
-    let g = c .before .before in
-    let f = g .before .before in
-    let e = f .before .before .before in
-    let a = e .before .before .before .before .args in
-    let x = f .a .given .0 in
-    request-underivable (a .h) (a .terms .now) (a .wire .now) (a .m) (e .if1 .left) (x .0) (x .1 .0) (x .1 .1 .0) (is f) (apart g)
-    (sym (c .before .can-deliver .ensures) ∙ not-true _ (c .if3 .taken))
+    request-barred (a .h) (a .terms .now) ws (a .m) (e .if1 .left) (x .0) (x .1 .0) (x .1 .1 .0) (is f) (not-true _ (c .if2 .taken))
 
 cast-initiator : tie.Need-cast-initiator
 cast-initiator c =
-    let f = c .before .before .before .before .before in
+    let f = c .before .before .before in
+    let s = f .before .before .before .before .before .before in
     let x = f .a .given .0 in
-    record { fits = omega (arith, request-in-range (f .before .before .before .before .before .before .before .pre) (x .0) (x .1 .0) (x .1 .1 .0) (is f) .0) }
+    record { fits = omega (arith, request-in-range (s .args .h) (s .pre .0) (s .pre .1) (x .0) (x .1 .0) (x .1 .1 .0) (is f) .0) }
 
 cast-responder : tie.Need-cast-responder
 cast-responder c =
-    let f = c .before .before .before .before .before in
+    let f = c .before .before .before in
+    let s = f .before .before .before .before .before .before in
     let x = f .a .given .0 in
-    record { fits = omega (arith, request-in-range (f .before .before .before .before .before .before .before .pre) (x .0) (x .1 .0) (x .1 .1 .0) (is f) .1) }
+    record { fits = omega (arith, request-in-range (s .args .h) (s .pre .0) (s .pre .1) (x .0) (x .1 .0) (x .1 .1 .0) (is f) .1) }
 
-returns-5 : tie.Need-returns-5
-returns-5 c =
-    let w = c .before in
-    let g = w .before .before .before in
+returns-4 : tie.Need-returns-4
+returns-4 c ws =
+    let g = c .before .before in
     let f = g .before .before in
     let e = f .before .before .before in
-    let a = e .before .before .before .before .args in
+    let a = e .before .before .before .args in
     let x = f .a .given .0 in
-    c .issued .ensures
-    ∙ request-taken (a .h) (a .terms .now) (a .wire .now) (a .m) (e .if1 .left) (x .0) (x .1 .0) (x .1 .1 .0) (is f) (apart g)
-    (sym (w .before .before .can-deliver .ensures) ∙ not-false _ (w .before .if3 .left))
+    ap (need (derivableAt (a .h) (a .terms .now) ws (a .m)) 15) (c .issued .ensures)
+    ∙ request-asked (a .h) (a .terms .now) ws (a .m) (e .if1 .left) (x .0) (x .1 .0) (x .1 .1 .0) (is f) (apart g)
 
 pub issue-spec : {M : Type 1} → statement M
 issue-spec =
@@ -84,10 +76,8 @@ issue-spec =
     (λ c. search needs)
     returns-2
     returns-3
-    (λ c κs. search needs)
-    returns-4
     (λ c. search needs)
     cast-initiator
     cast-responder
     (λ c κs. search needs)
-    returns-5)
+    returns-4)

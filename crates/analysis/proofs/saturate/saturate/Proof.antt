@@ -28,10 +28,12 @@ explore-requires c κs =
 
 returns : tie.Need-returns
 returns c =
-    let s = c .before .before .before .before .before .before .before .before .before .before .before .before .before .before .before .before in
-    saturated (s .args .who .flags) (s .pre .0) (s .args .wire .now)
-    (subst (λ (x : List ℕ). Filled (s .args .who .n) (s .args .who .flags) (s .args .terms .now) (s .args .count) x (c .before .before .explore .last .1 .1 .1 .1 .0))
-    (ap (λ (f : Found). f .known) (c .before .before .before .before .before .before .before .before .start .ensures)) (c .before .before .explore .ensures))
+    let s = c .before .before .before .before .before .before .before .before .before .before .before .before .before .before .before .before in (
+      saturated (s .args .who .flags) (s .pre .0) (s .args .wire .now)
+          (subst (λ (x : List ℕ). Filled (s .args .who .n) (s .args .who .flags) (s .args .terms .now) (s .args .count) x (c .before .before .explore .last .1 .1 .1 .1 .0))
+          (ap (λ (f : Found). f .known) (c .before .before .before .before .before .before .before .before .start .ensures)) (c .before .before .explore .ensures .0)),
+      c .before .before .explore .ensures .1,
+    )
 
 pub saturate-spec : {M : Type 1} → statement M
 saturate-spec =

@@ -14,27 +14,53 @@ use Rattle.deciding.proofs.decide.decide.Tie as tie
 abbrev lent : tie.Start → Tables
 lent c = tables (c .args .h) (c .args .terms .now) (c .args .runs .now) (c .args .wire .now) (c .args .cache)
 
+-- the place after the step was settled, and the function's start as it sees it
+abbrev start : tie.After-settle → tie.Start
+start c = c .before .before .before .before .before .before .before
+
 -- where the step is taken
-takes : (c : tie.After-effect) → let s = c .before .before .before .before .before .before in decided (lent s) (s .args .s) ≡ Takes (c .effect .given .0 .0)
-takes c = sym (c .before .before .by-row .ensures) ∙ c .effect .given .1
+abbrev settled : tie.After-effect → tie.After-settle
+settled c = c .before .before .before .before
+
+takes : (c : tie.After-effect) → let s = start (settled c) in decided (lent s) (s .args .s) ≡ Takes (c .effect .given .0 .0)
+takes c = sym (settled c .settle .ensures .0) ∙ c .effect .given .1
 
 plan-sends-requires : tie.Need-plan-sends-requires
-plan-sends-requires c κs = let s = c .before .before .before .before .before .before .before in can-send (lent s) (s .args .s) (takes (c .before)) (s .pre)
+plan-sends-requires c κs =
+    let e = c .before .before in
+    let s = start (settled e) in
+    (can-send (lent s) (s .args .s) (takes e) (s .pre .0), s .pre .2)
 
 add-all : tie.Need-add-all
-add-all c = record { fits = omega (arith, c .before .before .before .plan-sends .ensures .few, c .before .before .before .before .before .before .before .before .before .before .before .pre .terms-hold .room) }
+add-all c =
+    let p = c .before .before .before .before in
+    record { fits = omega (arith, p .plan-sends .ensures .few, start (settled (p .before .before .before)) .pre .0 .terms-hold .room) }
 
 returns : tie.Need-returns
-returns c = let s = c .before .before .before .before .before .before .before .before .before .before .before .before in (decision-full (lent s) (s .args .s) (takes (c .before .before .before .before .before .before)) (c .before .before .before .before .plan-sends .ensures) (c .if1 .taken), tt)
+returns c =
+    let p = c .before .before .before .before .before in
+    let e = p .before .before .before in
+    let s = start (settled e) in
+    ((decision-full (lent s) (s .args .s) (takes e) (p .plan-sends .ensures) (c .if1 .taken), tt), settled e .settle .ensures .1)
 
 returns-2 : tie.Need-returns-2
-returns-2 c = let s = c .before .before .before .before .before .before .before .before in (decision-refused (lent s) (s .args .s) (sym (c .before .before .before .before .by-row .ensures) ∙ c .before .before .number .given .1), tt)
+returns-2 c =
+    let d = c .before .before .before .before .before in
+    let s = start d in
+    ((decision-refused (lent s) (s .args .s) (sym (d .settle .ensures .0) ∙ c .before .number .given .1), tt), d .settle .ensures .1)
 
 returns-3 : tie.Need-returns-3
 returns-3 c =
-    let s = c .before .before .before .before .before .before .before .before .before .before .before .before in
-    let p = c .before .before .before .before .plan-sends .ensures in
-    (decision-taken (lent s) (s .args .s) (takes (c .before .before .before .before .before .before)) p (c .if1 .left), record { fits = taken-fits (lent s) (s .args .s) (s .pre) (takes (c .before .before .before .before .before .before)); plan = p; room = c .if1 .left })
+    let p = c .before .before .before .before .before in
+    let e = p .before .before .before in
+    let s = start (settled e) in
+    let plan = p .plan-sends .ensures in (
+      (
+        decision-taken (lent s) (s .args .s) (takes e) plan (c .if1 .left),
+        record { fits = taken-fits (lent s) (s .args .s) (s .pre .0) (takes e); plan = plan; room = c .if1 .left },
+      ),
+      settled e .settle .ensures .1,
+    )
 
 pub decide-spec : {M : Type 1} → statement M
 decide-spec =
@@ -42,10 +68,14 @@ decide-spec =
     (tie.spec
     (λ c κs. search needs)
     (λ c. search needs)
-    (λ c κs. search needs)
     (λ c. search needs)
     plan-sends-requires
     add-all
+    (λ c. search needs)
+    (λ c. search needs)
     returns
+    (λ c. search needs)
     returns-2
+    (λ c. search needs)
+    (λ c. search needs)
     returns-3)

@@ -8,20 +8,23 @@ use Rattle.deciding.proofs.plan.plan_sends.Statement.{statement}
 use Rattle.deciding.proofs.plan.plan_sends.Tie as tie
 
 -- where there are messages
-roots : (c : tie.After-first) → rootsOf (c .before .before .before .before .args .sends) ≡ At (c .first .given .0 .0) (c .first .given .0 .1 .0)
+roots : (c : tie.After-first) → rootsOf (c .before .before .before .before .before .args .sends) ≡ At (c .first .given .0 .0) (c .first .given .0 .1 .0)
 roots c = sym (c .before .before .roots-of .ensures) ∙ c .first .given .1
 
 plan-messages-requires : tie.Need-plan-messages-requires
-plan-messages-requires c κs = let at = c .before .before in draft-plannable (at .before .before .before .before .pre) (roots at) (c .draft-of .ensures)
+plan-messages-requires c κs =
+    let at = c .before .before .before in
+    let s = at .before .before .before .before .before in
+    (draft-plannable (s .pre .0) (roots at) (c .before .draft-of .ensures), s .pre .1)
 
 returns : tie.Need-returns
 returns c =
-    let d = c .before in
+    let d = c .before .before .before .before in
     let at = d .before .before in
-    draft-planned (at .before .before .before .before .pre) (roots at) (d .draft-of .ensures) (c .plan-messages .ensures)
+    draft-planned (at .before .before .before .before .before .pre .0) (roots at) (d .draft-of .ensures) (c .before .before .plan-messages .ensures)
 
 returns-2 : tie.Need-returns-2
-returns-2 c = none-planned (c .before .before .before .before .before .pre) (sym (c .before .before .before .roots-of .ensures) ∙ c .before .enum-told .given .1) (c .fresh .ensures)
+returns-2 c = let s = c .before .before .before .before .before in none-planned (s .pre .0) (sym (c .before .before .roots-of .ensures) ∙ c .enum-told .given .1) (s .pre .1)
 
 pub plan-sends-spec : {M : Type 1} → statement M
 plan-sends-spec =
@@ -32,6 +35,6 @@ plan-sends-spec =
     (λ c κs. search needs)
     plan-messages-requires
     (λ c. search needs)
-    (λ c κs. search needs)
+    (λ c. search needs)
     returns
     returns-2)

@@ -1,4 +1,5 @@
 -- `effects::apply::apply` meets its contract: what the plan says is what the effect says. Assumes nothing.
+use native.Mathlib.Omega.{arith}
 use Rattle.realm.specs.Tables.{Tables, tables}
 use Rattle.decisions.specs.Effects.{messagesOf}
 use Rattle.effects.specs.Laws.Apply.{row-fits, entry-fits, all-applied}
@@ -15,7 +16,7 @@ write-messages-requires c κs =
     let s = c .before .before .before .before .before .before .before in
     let all = s .pre .0 in
     let fit = s .pre .1 in
-    (all .terms-hold .size, all .wire-words .len, fit .room, fit .plan .few, fit .plan .marks (fit .room))
+    (all .terms-hold .size, all .wire-words .len, fit .room, omega (arith, fit .plan .few, fit .plan .places), fit .plan .marks (fit .room))
 
 write-row-requires : tie.Need-write-row-requires
 write-row-requires c κs =

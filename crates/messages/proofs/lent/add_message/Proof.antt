@@ -1,12 +1,11 @@
 -- `messages::lent::add_message` meets its contract, by the law for each way out. Assumes nothing.
 use mathlib.Core.Bool.{true}
-use mathlib.Core.Path.{_≡_, sym, _∙_}
-use Prim.Native.Nat.{_<_, _≤_}
+use mathlib.Core.Path.{_≡_, refl, sym, _∙_}
+use Prim.Native.Nat.{_<_}
 use native.Mathlib.Omega.{arith}
 use borrow.Author.Tests.{not-true, not-false}
-use lib.ListN.{length}
 use Rattle.drafts.specs.Draft.{draftFits}
-use Rattle.terms.specs.Valid.{holds, holds-valid}
+use Rattle.terms.specs.Valid.{holds}
 use Rattle.messages.specs.Lent.{start-ready, bad-tables, bad-root, bad-draft, too-many, all-fit}
 use Rattle.messages.specs.Planning.{few}
 use borrow.Author.Needs.{needs}
@@ -24,12 +23,6 @@ inside c = omega arith
 fitting : (c : tie.Else3) → let a = c .before .before .before .before .before .before .before .args in draftFits (a .n) (a .count) (a .draft) ≡ true
 fitting c = sym (c .before .draft-fits .ensures) ∙ not-false _ (c .if3 .left)
 
-words : (c : tie.After-struct-known) → length (c .before .before .plan-node .result .plan .words) ≡ 32
-words c = search needs
-
-planned : (c : tie.After-struct-known) → let q = c .before .before .plan-node .result .plan in q .count ≤ length (q .words)
-planned c = omega (arith, words c, few (c .before .before .plan-node .ensures .again))
-
 -- ---- the needs
 
 returns : tie.Need-returns
@@ -45,37 +38,30 @@ returns-3 c =
 
 plan-node-requires : tie.Need-plan-node-requires
 plan-node-requires c κs =
-    let e = c .before .before in
-    (start-ready (omega arith) (held (e .before .before .before)) (fitting e) (c .fresh .ensures), inside (e .before .before))
+    let e = c .before .before .before in
+    (start-ready (omega arith) (held (e .before .before .before)) (fitting e) refl, inside (e .before .before))
 
 add-all : tie.Need-add-all
 add-all c =
-    let e = c .before .before .before .before .before in
-    let a = e .before .before .before .before .before .before .before .args in
-    let v = holds-valid (a .n) (a .terms .now) (a .count) (held (e .before .before .before)) in
-    record { fits = omega (arith, few (c .before .before .plan-node .ensures .again), v .room) }
+    let r = c .before .before .before .plan-node .ensures .again in
+    record { fits = omega (arith, few r, r .table .room) }
 
 returns-4 : tie.Need-returns-4
 returns-4 c =
-    let e = c .before .before .before .before .before .before in
+    let e = c .before .before .before .before .before .before .before .before in
     let a = e .before .before .before .before .before .before .before .args in
-    (too-many (a .n) (a .terms .now) (a .count) (a .draft) (a .root) (held (e .before .before .before)) (inside (e .before .before)) (fitting e) (c .before .before .before .before .fresh .ensures) (c .before .before .before .plan-node .ensures) (planned (c .before)) (omega arith))
+    (too-many (a .n) (a .terms .now) (a .count) (a .draft) (a .root) (held (e .before .before .before)) (inside (e .before .before)) (fitting e) (c .before .before .before .before .plan-node .ensures) (omega arith))
 
 write-plan-requires : tie.Need-write-plan-requires
 write-plan-requires c κs =
-    let e = c .before .before .before .before .before .before .before in
-    let a = e .before .before .before .before .before .before .before .args in
-    let v = holds-valid (a .n) (a .terms .now) (a .count) (held (e .before .before .before)) in
-    (v .size, omega arith, few (c .before .before .before .before .plan-node .ensures .again))
+    let r = c .before .before .before .before .before .before .plan-node .ensures .again in
+    (r .table .size, omega arith, omega (arith, few r, r .places))
 
 returns-5 : tie.Need-returns-5
 returns-5 c =
-    let e = c .before .before .before .before .before .before .before .before .before .before in
+    let e = c .before .before .before .before .before .before .before .before .before .before .before .before .before in
     let a = e .before .before .before .before .before .before .before .args in
-    let p = c .before .before .before .before .before .before .before .plan-node .ensures in
-    let f = c .before .before .before .before .before .before .before .before .fresh .ensures in
-    let w = planned (c .before .before .before .before .before) in
-    rw (c .before .before .write-plan .ensures) (all-fit (a .n) (a .terms .now) (a .count) (a .draft) (a .root) (held (e .before .before .before)) (inside (e .before .before)) (fitting e) f p w (omega arith))
+    rw (c .before .before .write-plan .ensures) (all-fit (a .n) (a .terms .now) (a .count) (a .draft) (a .root) (held (e .before .before .before)) (inside (e .before .before)) (fitting e) (c .before .before .before .before .before .before .before .before .before .plan-node .ensures) (omega arith))
 
 pub add-message-spec : {M : Type 1} → statement M
 add-message-spec =
@@ -89,11 +75,13 @@ add-message-spec =
     (λ c κs. search needs)
     (λ c. search needs)
     returns-3
-    (λ c κs. search needs)
+    (λ c. search needs)
+    (λ c. search needs)
     plan-node-requires
     add-all
     (λ c. search needs)
     returns-4
+    (λ c. search needs)
     write-plan-requires
     (λ c. search needs)
     returns-5)

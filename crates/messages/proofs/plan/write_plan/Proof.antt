@@ -11,35 +11,32 @@ use Rattle.messages.proofs.plan.write_plan.Statement.{statement}
 use Rattle.messages.proofs.plan.write_plan.Tie as tie
 
 abbrev Inv-loop : tie.InvT-loop
-Inv-loop terms₀ count planned words i₀ terms i = (i ≤ planned) × (length terms ≡ length terms₀) × (terms ≡ paste terms₀ count words i)
+Inv-loop terms₀ count words planned i₀ terms i = (i ≤ planned) × (length terms ≡ length terms₀) × (terms ≡ paste terms₀ count words i)
 
 abbrev μ-loop : tie.MeasureT-loop
-μ-loop terms₀ count planned words i₀ terms i = planned - i
-
-places : (c : tie.At-loop Inv-loop μ-loop) → length (c .before .before .args .plan .words) ≡ 32
-places c = search needs
+μ-loop terms₀ count words planned i₀ terms i = planned - i
 
 loop-holds : tie.Need-loop-holds Inv-loop μ-loop
-loop-holds c = (search needs, refl, paste-zero (c .before .args .terms .now) (c .before .args .count) (c .before .args .plan .words))
+loop-holds c = (search needs, refl, paste-zero (c .args .terms .now) (c .args .count) (c .args .words .now))
 
 loop-again : tie.Need-loop-again Inv-loop μ-loop
 loop-again c =
     let a = c .before .before .before .args in
-    let at = c .before .loop in
+    let at = c .before .before .loop in
     let d = a .terms .now in
-    let w = a .plan .words in (
+    let w = a .words .now in (
       search needs,
       length-set (at .terms) (a .count + at .i) (getD w (at .i) 0) ∙ at .inv .1,
       ap (λ (l : List ℕ). set l (a .count + at .i) (getD w (at .i) 0)) (at .inv .2)
-          ∙ paste-suc d (a .count) w (at .i) 0 (omega arith) (omega (arith, places (c .before)))
+          ∙ paste-suc d (a .count) w (at .i) 0 (omega arith) (omega arith)
           ∙ ap (λ (n : ℕ). paste d (a .count) w n) (sym (add-one (at .i))),
     )
 
 returns : tie.Need-returns Inv-loop μ-loop
 returns c =
-    let a = c .before .before .before .args in
-    let last : c .before .loop .i ≡ a .plan .count = omega arith in
-    c .before .loop .inv .2 ∙ ap (λ (n : ℕ). paste (a .terms .now) (a .count) (a .plan .words) n) last
+    let a = c .before .before .args in
+    let last : c .before .loop .i ≡ a .planned = omega arith in
+    c .before .loop .inv .2 ∙ ap (λ (n : ℕ). paste (a .terms .now) (a .count) (a .words .now) n) last
 
 pub write-plan-spec : {M : Type 1} → statement M
 write-plan-spec =

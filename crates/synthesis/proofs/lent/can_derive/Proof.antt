@@ -5,8 +5,9 @@ use mathlib.Core.Path.{_≡_, sym, ap, _∙_}
 use Prim.Native.Nat.{ℕ}
 use native.Mathlib.Omega.{arith}
 use borrow.Author.Tests.{not-true, not-false, eq-eqb, ne-eqb, lt-ltb, le-ltb}
-use Rattle.marks.specs.Within.{within}
+use Rattle.marks.specs.Within.{within, within-is}
 use Rattle.terms.specs.Valid.{holds, holds-valid}
+use Rattle.synthesis.specs.Knowledge.{kept-none}
 use Rattle.synthesis.specs.Lent.{tablesHold, canDerive}
 use borrow.Author.Needs.{needs}
 use Rattle.synthesis.proofs.lent.can_derive.Statement.{statement}
@@ -44,16 +45,26 @@ returns-4 c = let a = c .before .before .before .before .before .before .before 
 
 derivable-requires : tie.Need-derivable-requires
 derivable-requires c κs =
-    let a = c .before .before .before .before .before .before .before .before .before .args in
-    (holds-valid (a .who .n) (a .terms .now) (a .count) (held (c .before .before .before .before .before)), c .before .before .before .before .if2 .left, omega arith)
+    let in-range = c .before in
+    let a = in-range .before .before .before .before .before .before .before .before .before .args in (
+      holds-valid (a .who .n) (a .terms .now) (a .count) (held (in-range .before .before .before .before .before)),
+      in-range .before .before .before .before .if2 .left,
+      within-is (a .wire .now) (a .count) (within-wire (in-range .before .before) ∙ not-false _ (in-range .before .if3 .left)),
+      kept-none (a .who .n) (a .who .flags) (a .terms .now) (a .count),
+      omega arith,
+    )
 
 returns-5 : tie.Need-returns-5
 unfolding canDerive
-returns-5 c = let a = c .before .before .before .before .before .before .before .before .before .before .before .args in rw (fit (c .before .before .before), lt-ltb (a .t) (a .count) (omega arith), ← c .before .derivable .ensures, c .if5 .taken)
+returns-5 c =
+    let a = c .before .before .before .before .before .before .before .before .before .before .before .before .before .args in
+    rw (fit (c .before .before .before .before .before), lt-ltb (a .t) (a .count) (omega arith), ← c .before .before .derivable .ensures .0, c .if5 .taken)
 
 returns-6 : tie.Need-returns-6
 unfolding canDerive
-returns-6 c = let a = c .before .before .before .before .before .before .before .before .before .before .before .args in rw (fit (c .before .before .before), lt-ltb (a .t) (a .count) (omega arith), ← c .before .derivable .ensures, c .if5 .left)
+returns-6 c =
+    let a = c .before .before .before .before .before .before .before .before .before .before .before .before .before .args in
+    rw (fit (c .before .before .before .before .before), lt-ltb (a .t) (a .count) (omega arith), ← c .before .before .derivable .ensures .0, c .if5 .left)
 
 pub can-derive-spec : {M : Type 1} → statement M
 can-derive-spec =
@@ -66,6 +77,7 @@ can-derive-spec =
     (λ c κs. search needs)
     returns-3
     returns-4
+    (λ c. search needs)
     derivable-requires
     returns-5
     returns-6)
