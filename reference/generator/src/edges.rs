@@ -3,7 +3,7 @@
 use reference::marks::FORMATS;
 
 use crate::cells::{most_added, refusals_of_kind};
-use crate::{ahead_cells, forms, header_cells, purge_cells};
+use crate::{ahead_cells, asked_cells, forms, header_cells, purge_cells};
 
 /// Cells that say in which way a cell above was met: each condition of a
 /// refusal while no other condition of it holds, the limits hit exactly, and
@@ -19,6 +19,7 @@ pub fn edge_cells() -> Vec<String> {
     cells.extend(order_edges());
     cells.extend(purge_cells::edges());
     cells.extend(ahead_cells::edges());
+    cells.extend(asked_cells::edges());
     cells.extend(OTHER_EDGES.iter().map(|cell| cell.to_string()));
     cells
 }

@@ -7,6 +7,7 @@
 pub mod actions;
 pub mod ahead;
 pub mod ahead_cells;
+pub mod asked_cells;
 pub mod cells;
 pub mod conditions;
 pub mod coverage;

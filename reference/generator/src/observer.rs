@@ -10,6 +10,7 @@ use reference::refusal::Refusal;
 use reference::terms::{Message, MAX_TERMS};
 
 use crate::ahead_cells;
+use crate::asked_cells::Questions;
 use crate::cells::most_added;
 use crate::conditions::{facts, Facts};
 use crate::forms;
@@ -26,6 +27,7 @@ pub struct Observer {
     /// The terms that steps added.
     added_by_steps: HashSet<u16>,
     purges: Purges,
+    questions: Questions,
 }
 
 impl Observer {
@@ -37,6 +39,7 @@ impl Observer {
             refused: HashMap::new(),
             added_by_steps: HashSet::new(),
             purges: Purges::default(),
+            questions: Questions::default(),
         }
     }
 
@@ -217,6 +220,7 @@ impl Observer {
     fn before_step(&mut self, record: &StepRecord, facts: &Facts) {
         let answer = facts.applies.first().copied();
         self.cells.extend(self.purges.cells(&self.realm, record, facts));
+        self.cells.extend(self.questions.cells(&self.realm, record, facts));
         match record.step {
             3..=6 | 10 => {
                 self.message_cells(record, facts, answer);
