@@ -28,8 +28,9 @@ loop-again c =
     let here = c .before .loop in
     let xs = a .list .now in (
       search needs,
-      length-set (here .list) (a .at + here .k) (getD (a .t3) (here .k) 0) ∙ here .inv .1,
-      ap (λ (l : List ℕ). set l (a .at + here .k) (getD (a .t3) (here .k) 0)) (here .inv .2)
+      length-set (here .list) _ (getD (a .t3) (here .k) 0) ∙ here .inv .1,
+      ap (λ (i : ℕ). set (here .list) i (getD (a .t3) (here .k) 0)) (omega arith)
+          ∙ ap (λ (l : List ℕ). set l (a .at + here .k) (getD (a .t3) (here .k) 0)) (here .inv .2)
           ∙ paste-suc xs (a .at) (a .t3) (here .k) 0 (omega arith) (omega (arith, eight (c .before)))
           ∙ ap (λ (n : ℕ). paste xs (a .at) (a .t3) n) (sym (add-one (here .k))),
     )

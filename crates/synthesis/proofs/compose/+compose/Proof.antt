@@ -76,7 +76,7 @@ start m c = c .before .before .before .before .before .before .before .before .b
 away : (m : ℕ) (c : Split m) → marked (foundIn (start m c .args .known .now)) (start m c .args .t) ≡ false
 away m c =
     let s = start m c in
-    part-marked 8 (s .args .known .now) (s .args .t) (small m s)
+    part-marked 8 (s .args .known .now) (s .args .t) (small m s) ∙ ap (marked (s .args .known .now)) (omega arith)
     ∙ sym (c .before .before .before .before .before .before .before .is-marked .ensures) ∙ c .before .before .before .before .before .before .if1 .left
 
 operands-are : (m : ℕ) (c : Split m) → c .operands-of .result ≡ operandsOf (termAt (start m c .args .terms .now) (start m c .args .t))
@@ -118,7 +118,7 @@ returns : (m : ℕ) → compose-lts.Need-returns (claims m) (compose-at m) compo
 returns m c =
     let s = c .before .before .before .before .before in
     composed-found (s .pre .1 .0) (s .pre .1 .1) refl (s .args .t) (s .pre .1 .2)
-    (part-marked 8 (s .args .known .now) (s .args .t) (small m s) ∙ sym (c .before .is-marked .ensures) ∙ c .if1 .taken)
+    (part-marked 8 (s .args .known .now) (s .args .t) (small m s) ∙ ap (marked (s .args .known .now)) (omega arith) ∙ sym (c .before .is-marked .ensures) ∙ c .if1 .taken)
 
 add-missed : (m : ℕ) → compose-lts.Need-add-is-marked-2 (claims m) (compose-at m) compose.Post
 add-missed m c = search (needs, small m (c .before .before .before .before .before .before))
@@ -130,7 +130,7 @@ returns-2 : (m : ℕ) → compose-lts.Need-returns-2 (claims m) (compose-at m) c
 returns-2 m c =
     let s = c .before .before .before .before .before .before .before .before in
     composed-missed (s .pre .1 .0) (s .pre .1 .1) refl (s .args .t) (s .pre .1 .2)
-    (part-marked 16 (s .args .known .now) (s .args .t) (small m s) ∙ sym (c .before .is-marked2 .ensures) ∙ c .if2 .taken)
+    (part-marked 16 (s .args .known .now) (s .args .t) (small m s) ∙ ap (marked (s .args .known .now)) (omega arith) ∙ sym (c .before .is-marked2 .ensures) ∙ c .if2 .taken)
 
 note-requires : (m : ℕ) → compose-lts.Need-note-requires (claims m) (compose-at m) compose.Post
 note-requires m c κs = let s = start m (c .before .before .before .before) in (size m s, small m s)

@@ -24,7 +24,7 @@ returns : tie.Need-returns Inv-loop μ-loop
 returns c =
     let at = c .before .before .before .before in
     let s = at .before in
-    refuted (other-wire (s .args .known .now) (s .args .wire .now) (s .pre .0) (s .pre .1) (at .loop .k) (c .before .before .before .loop-test .taken) (c .if1 .taken))
+    refuted (other-wire (s .args .known .now) (s .args .wire .now) (s .pre .0) (s .pre .1) (at .loop .k) (c .before .before .before .loop-test .taken) (λ e. omega (arith, e, c .if1 .taken)))
 
 loop-again : tie.Need-loop-again Inv-loop μ-loop
 loop-again c =
@@ -34,7 +34,7 @@ loop-again c =
       omega (arith, c .before .before .before .loop-test .taken),
       λ j h.
           dite (ℕ-discrete j (here .k))
-          (λ e. subst (λ (i : ℕ). getD (s .args .known .now) i 0 ≡ getD (s .args .wire .now) i 0) (sym e) (c .if1 .left))
+          (λ e. subst (λ (i : ℕ). getD (s .args .known .now) i 0 ≡ getD (s .args .wire .now) i 0) (sym e) (omega (arith, c .if1 .left)))
           (λ ne. here .inv .1 j (omega arith)),
     )
 
