@@ -1,0 +1,296 @@
+//! Everything that has a number or a name in a walk: marks and their fields, kinds
+//! of terms, steps, refusals. Reading, writing, sentences and the sheet all look
+//! here, so a mark, step or refusal more is a row more.
+
+/// A field of a record: its name in the text form, and its bytes in the file.
+#[derive(Clone, Copy, Debug, PartialEq, Eq)]
+pub struct Field {
+    pub name: &'static str,
+    pub bytes: usize,
+}
+
+const fn field(name: &'static str, bytes: usize) -> Field {
+    Field { name, bytes }
+}
+
+impl Field {
+    /// The highest number that the field holds.
+    pub fn most(&self) -> u32 {
+        (u64::MAX >> (64 - 8 * self.bytes)) as u32
+    }
+}
+
+/// What a record is for.
+#[derive(Clone, Copy, Debug, PartialEq, Eq)]
+pub enum Use {
+    /// It opens the realm, of at most so many principals.
+    Header {
+        most: u8,
+    },
+    Term,
+    Step,
+}
+
+/// A two-letter mark and the fields behind it, in the order of the file.
+#[derive(Clone, Copy, Debug, PartialEq, Eq)]
+pub struct Mark {
+    pub letters: &'static str,
+    pub purpose: Use,
+    pub fields: &'static [Field],
+}
+
+pub const MARKS: [Mark; 4] = [
+    Mark {
+        letters: "HD",
+        purpose: Use::Header { most: 16 },
+        fields: &[field("n", 1), field("flags", 2), field("Ls", 4), field("La", 4)],
+    },
+    Mark {
+        letters: "HW",
+        purpose: Use::Header { most: 32 },
+        fields: &[field("n", 1), field("flags", 4), field("Ls", 4), field("La", 4)],
+    },
+    Mark {
+        letters: "TM",
+        purpose: Use::Term,
+        fields: &[field("kind", 1), field("L", 2), field("R", 2)],
+    },
+    Mark {
+        letters: "ST",
+        purpose: Use::Step,
+        fields: &[
+            field("step", 1),
+            field("run", 1),
+            field("a", 1),
+            field("b", 1),
+            field("m", 2),
+            field("t", 4),
+        ],
+    },
+];
+
+impl Mark {
+    pub fn named(letters: &str) -> Option<&'static Mark> {
+        MARKS.iter().find(|mark| mark.letters.eq_ignore_ascii_case(letters))
+    }
+
+    pub fn is_header(&self) -> bool {
+        matches!(self.purpose, Use::Header { .. })
+    }
+
+    /// Bytes of a whole record, its mark among them.
+    pub fn record_bytes(&self) -> usize {
+        self.letters.len() + self.fields.iter().map(|field| field.bytes).sum::<usize>()
+    }
+
+    /// The mark as the engine has it: the first letter in the high byte.
+    pub fn number(&self) -> u16 {
+        let letters = self.letters.as_bytes();
+        engine::mark(&[letters[0], letters[1]])
+    }
+
+    /// The field that stands right behind the mark in the text form, without its name.
+    pub fn leading(&self) -> Option<&'static str> {
+        (!self.is_header()).then(|| self.fields[0].name)
+    }
+
+    /// The marks that a text can have, for a message.
+    pub fn all() -> String {
+        MARKS.map(|mark| mark.letters).join(", ")
+    }
+}
+
+/// Principals of a realm, the server among them, at least.
+pub const LEAST_PRINCIPALS: u8 = 3;
+
+/// Nonces and session keys are numbered up to here; those of runs are below
+/// `FIRST_OF_INTRUDER`, the others the intruder's own.
+pub const MOST_NONCE_OR_KEY: u16 = 95;
+pub const FIRST_OF_INTRUDER: u16 = 64;
+
+/// Bytes of a walk file at most.
+pub const LONGEST_FILE: usize = 65_536;
+
+/// A kind of term: which operands it uses, the others being 0.
+#[derive(Clone, Copy, Debug, PartialEq, Eq)]
+pub struct Kind {
+    pub number: u8,
+    pub name: &'static str,
+    pub uses: &'static [&'static str],
+}
+
+pub const PRINCIPAL: u8 = 0;
+pub const TIME: u8 = 1;
+pub const NONCE: u8 = 2;
+pub const LONG_TERM_KEY: u8 = 3;
+pub const SESSION_KEY: u8 = 4;
+pub const PAIR: u8 = 5;
+pub const ENCRYPTED: u8 = 6;
+
+const fn kind(number: u8, name: &'static str, uses: &'static [&'static str]) -> Kind {
+    Kind { number, name, uses }
+}
+
+pub const KINDS: [Kind; 7] = [
+    kind(PRINCIPAL, "principal", &["L"]),
+    kind(TIME, "time", &["L", "R"]),
+    kind(NONCE, "nonce", &["L"]),
+    kind(LONG_TERM_KEY, "long-term key", &["L"]),
+    kind(SESSION_KEY, "session key", &["L"]),
+    kind(PAIR, "pair", &["L", "R"]),
+    kind(ENCRYPTED, "encryption", &["L", "R"]),
+];
+
+impl Kind {
+    pub fn of(number: u32) -> Option<&'static Kind> {
+        KINDS.iter().find(|kind| u32::from(kind.number) == number)
+    }
+}
+
+/// A step: which fields it uses, and the names of the messages that it takes and
+/// sends.
+#[derive(Clone, Copy, Debug, PartialEq, Eq)]
+pub struct Step {
+    pub number: u8,
+    pub name: &'static str,
+    pub uses: &'static [&'static str],
+    pub takes: Option<&'static str>,
+    pub sends: &'static [&'static str],
+}
+
+pub const ASK: u8 = 1;
+pub const WAIT: u8 = 2;
+pub const ANSWER: u8 = 3;
+pub const TAKE_REPLY: u8 = 4;
+pub const TAKE_DELIVERY: u8 = 5;
+pub const TAKE_CONFIRMATION: u8 = 6;
+pub const CLOCK: u8 = 7;
+pub const FORGET: u8 = 8;
+pub const LEAK: u8 = 9;
+pub const DERIVE: u8 = 10;
+
+const fn step(
+    number: u8,
+    name: &'static str,
+    uses: &'static [&'static str],
+    takes: Option<&'static str>,
+    sends: &'static [&'static str],
+) -> Step {
+    Step { number, name, uses, takes, sends }
+}
+
+pub const STEPS: [Step; 10] = [
+    step(ASK, "an initiator asks the server", &["a", "b"], None, &["request"]),
+    step(WAIT, "a responder waits", &["a", "b"], None, &[]),
+    step(ANSWER, "the server answers", &["m"], Some("request"), &["reply", "ticket"]),
+    step(
+        TAKE_REPLY,
+        "an initiator takes the reply",
+        &["run", "m"],
+        Some("reply"),
+        &["authenticator"],
+    ),
+    step(
+        TAKE_DELIVERY,
+        "a responder takes ticket and authenticator",
+        &["run", "m"],
+        Some("delivery"),
+        &["confirmation"],
+    ),
+    step(
+        TAKE_CONFIRMATION,
+        "an initiator takes the confirmation",
+        &["run", "m"],
+        Some("confirmation"),
+        &[],
+    ),
+    step(CLOCK, "the clock is set", &["t"], None, &[]),
+    step(FORGET, "a responder forgets", &["b"], None, &[]),
+    step(LEAK, "a server's key leaks", &["run"], None, &["key"]),
+    step(DERIVE, "can the intruder derive this", &["m"], Some("message"), &[]),
+];
+
+impl Step {
+    pub fn of(number: u32) -> Option<&'static Step> {
+        STEPS.iter().find(|step| u32::from(step.number) == number)
+    }
+
+    /// The step that takes a message of this name, for sentences.
+    pub fn taking(name: &str) -> Option<&'static Step> {
+        STEPS.iter().find(|step| step.uses.contains(&"run") && step.takes == Some(name))
+    }
+}
+
+/// A refusal: why it is given, and what Kerberos calls it.
+#[derive(Clone, Copy, Debug, PartialEq, Eq)]
+pub struct Refusal {
+    pub number: u8,
+    pub words: &'static str,
+    pub kerberos: Option<&'static str>,
+}
+
+const fn refusal(number: u8, words: &'static str) -> Refusal {
+    Refusal { number, words, kerberos: None }
+}
+
+const fn in_kerberos(number: u8, words: &'static str, name: &'static str) -> Refusal {
+    Refusal { number, words, kerberos: Some(name) }
+}
+
+pub const NO_HEADER: u8 = 1;
+pub const HEADER_VALUE: u8 = 2;
+pub const BAD_MARK: u8 = 3;
+pub const UNKNOWN_NUMBER: u8 = 4;
+pub const UNUSED_FIELD: u8 = 5;
+pub const OUT_OF_RANGE: u8 = 6;
+pub const TABLES: u8 = 10;
+pub const WRONG_STAGE: u8 = 11;
+pub const CLOCK_BACK: u8 = 12;
+pub const RUNS_FULL: u8 = 13;
+pub const WRONG_FORM: u8 = 14;
+pub const UNDERIVABLE: u8 = 15;
+pub const TICKET_EXPIRED: u8 = 16;
+pub const TIME_PAST: u8 = 17;
+pub const TIME_AHEAD: u8 = 22;
+pub const REPLAY: u8 = 18;
+pub const CACHE_FULL: u8 = 19;
+pub const TERMS_FULL: u8 = 20;
+pub const NO_ROOM: u8 = 21;
+
+/// In the order in which they are looked at, but for 10, which comes before all.
+pub const REFUSALS: [Refusal; 19] = [
+    refusal(TABLES, "the tables do not hold together"),
+    refusal(NO_HEADER, "the file is over 65,536 bytes, or does not begin with a whole header"),
+    refusal(HEADER_VALUE, "a header value is not allowed"),
+    refusal(BAD_MARK, "another mark, or a record cut short; reading ends here"),
+    refusal(UNKNOWN_NUMBER, "no such kind or step"),
+    refusal(UNUSED_FIELD, "a field that is not used is not 0"),
+    refusal(OUT_OF_RANGE, "a field is out of range, or what it names is not there"),
+    refusal(WRONG_STAGE, "the run's role or stage does not fit"),
+    refusal(CLOCK_BACK, "the clock would go back"),
+    refusal(RUNS_FULL, "64 runs exist"),
+    refusal(WRONG_FORM, "the message has not the step's form"),
+    refusal(UNDERIVABLE, "the intruder cannot derive the message"),
+    in_kerberos(TICKET_EXPIRED, "the ticket's life is over", "KRB_AP_ERR_TKT_EXPIRED"),
+    in_kerberos(TIME_PAST, "the authenticator's life is over", "KRB_AP_ERR_SKEW"),
+    in_kerberos(TIME_AHEAD, "the authenticator's time is ahead of the clock", "KRB_AP_ERR_SKEW"),
+    in_kerberos(REPLAY, "a replay: the entry is in the cache", "KRB_AP_ERR_REPEAT"),
+    refusal(CACHE_FULL, "the replay cache holds 16 entries"),
+    refusal(TERMS_FULL, "the new terms do not all fit"),
+    refusal(NO_ROOM, "no room in the buffer for the walk"),
+];
+
+impl Refusal {
+    pub fn of(number: u8) -> Option<&'static Refusal> {
+        REFUSALS.iter().find(|refusal| refusal.number == number)
+    }
+
+    /// Its words, with Kerberos's name where there is one.
+    pub fn told(number: u8) -> String {
+        match Refusal::of(number) {
+            Some(Refusal { words, kerberos: Some(name), .. }) => format!("{words} ({name})"),
+            Some(Refusal { words, .. }) => (*words).to_string(),
+            None => format!("refusal {number}"),
+        }
+    }
+}
