@@ -5,7 +5,7 @@
 
 use std::hint::black_box;
 
-use lent::{Answer, Entry, Tables, CACHE_PLACES};
+use lent::{call, Answer, Entry, Tables, CACHE_PLACES};
 use reference::file::{read_header, read_record, Header, Record, StepRecord, TermRecord};
 use reference::marks::{mark, MAX_PRINCIPALS};
 use reference::realm::{self, Realm};
@@ -44,12 +44,12 @@ pub enum Order {
 
 impl Both {
     pub fn new(header: &Header) -> Both {
-        Both { tables: Tables::new(header), realm: Realm::new(header.settings()) }
+        Both { tables: lent::tables(header), realm: Realm::new(header.settings()) }
     }
 
     /// Gives a record to both, which must answer alike.
     pub fn put(&mut self, record: Record) -> Answer {
-        let answer = self.tables.call(&record);
+        let answer = call(&mut self.tables, &record);
         assert_eq!(answer, answered(self.realm.apply(&record)), "{record:?}");
         answer
     }
@@ -181,7 +181,7 @@ impl Call {
 #[no_mangle]
 #[inline(never)]
 fn call_of_the_engine(tables: &mut Tables, record: &Record) {
-    black_box(tables.call(black_box(record)));
+    black_box(call(tables, black_box(record)));
 }
 
 #[no_mangle]

@@ -3,7 +3,7 @@
 
 use std::collections::BTreeSet;
 
-use engine::{is_marked, Answer, Call, Role, Run, Set, Stage, Tables, TERM_PLACES};
+use engine::{is_marked, Answer, Call, Header, Role, Run, Set, Stage, Tables, TERM_PLACES};
 
 use crate::message::{missing, sent_by};
 use crate::notation::notation;
@@ -54,6 +54,24 @@ pub fn stage(stage: Stage) -> &'static str {
         Stage::Authenticated => "waits for the confirmation",
         Stage::Done => "done",
     }
+}
+
+/// Why a header was refused.
+pub fn header(mark: &Mark, header: &Header) -> String {
+    let Use::Header { most } = mark.purpose else { return String::new() };
+    let n = header.n;
+    let above = u64::from(header.flags) >> n.min(63);
+    let words = [
+        (!(LEAST_PRINCIPALS..=most).contains(&n)).then(|| {
+            format!("n is {n}, and under {} {LEAST_PRINCIPALS} to {most} is allowed", mark.letters)
+        }),
+        (header.flags & 1 == 1).then(|| "a flag on 0, the server".to_string()),
+        (above != 0)
+            .then(|| format!("a flag at {n} or above: principals are 0 to {}", n.max(1) - 1)),
+        (header.ticket_life == 0).then(|| "Ls, the ticket's life, is 0".to_string()),
+        (header.authenticator_life == 0).then(|| "La, the authenticator's life, is 0".to_string()),
+    ];
+    words.into_iter().flatten().collect::<Vec<_>>().join("; ")
 }
 
 /// Why the engine refused a call on these tables.
@@ -114,6 +132,7 @@ fn step_refused(walk: &Walk, before: &Tables, call: Call, refusal: u8) -> Option
         OUT_OF_RANGE => out_of_range(walk, before, call)?,
         WRONG_STAGE => wrong_stage(walk, before, step, run)?,
         CLOCK_BACK => format!("the clock is {clock}, and {t} is before it"),
+        RUNS_FULL => format!("runs 0 to {} are there", realm.runs - 1),
         WRONG_FORM => wrong_form(walk, before, step, run)?,
         UNDERIVABLE => format!("he lacks {}", lacks(walk, before, m)),
         TICKET_EXPIRED => {

@@ -4,7 +4,7 @@
 use std::fs;
 use std::path::PathBuf;
 
-use lent::{Answer, Tables};
+use lent::{call, Answer, Tables};
 use reference::file::{read_header, read_record, Record, StepRecord, TermRecord};
 use reference::realm::{Answer as Expected, Realm};
 
@@ -16,13 +16,13 @@ fn ok(run: Option<u8>, added: u16) -> Answer {
 fn compare(name: &str, file: &[u8]) -> usize {
     let Ok((header, mut rest)) = read_header(file) else { return 0 };
     let mut realm = Realm::new(header.settings());
-    let mut tables = Tables::new(&header);
+    let mut tables = lent::tables(&header);
     let mut records = 0;
     while let Some(Ok((record, after))) = read_record(rest) {
         rest = after;
         records += 1;
         let before = tables.clone();
-        let answer = tables.call(&record);
+        let answer = call(&mut tables, &record);
         let expected = match realm.apply(&record) {
             Ok(Expected::Old(number)) => Answer::Old(number),
             Ok(Expected::New(number)) => Answer::New(number),
@@ -62,12 +62,12 @@ fn example(name: &str) -> Vec<u8> {
 fn case_f() {
     let file = example("case-f.walk");
     let (header, mut rest) = read_header(&file).unwrap();
-    let mut tables = Tables::new(&header);
+    let mut tables = lent::tables(&header);
     let mut answers = Vec::new();
     while let Some(read) = read_record(rest) {
         let (record, after) = read.unwrap();
         rest = after;
-        answers.push(tables.call(&record));
+        answers.push(call(&mut tables, &record));
     }
     let expected = [
         ok(Some(0), 5),
@@ -88,13 +88,13 @@ fn case_f() {
 #[test]
 fn terms_are_new_once() {
     let (header, _) = read_header(b"HD\x03\0\0\0\0\0\x64\0\0\0\x0a").unwrap();
-    let mut tables = Tables::new(&header);
+    let mut tables = lent::tables(&header);
     let terms = [(0, 1, 0), (1, 0, 1), (2, 1, 0), (3, 1, 0), (4, 1, 0), (5, 0, 1), (6, 0, 4)];
     let terms = terms.map(|(kind, left, right)| Record::Term(TermRecord { kind, left, right }));
-    let added = terms.map(|term| tables.call(&term));
+    let added = terms.map(|term| call(&mut tables, &term));
     assert_eq!(added, [0, 1, 2, 3, 4, 5, 6].map(Answer::New));
     let before = tables.clone();
-    let again = terms.map(|term| tables.call(&term));
+    let again = terms.map(|term| call(&mut tables, &term));
     assert_eq!(again, [0, 1, 2, 3, 4, 5, 6].map(Answer::Old));
     assert_eq!(tables, before);
 }
@@ -128,7 +128,7 @@ fn tables_of_other_lengths_are_refused() {
     let (header, _) = read_header(b"HD\x03\0\0\0\0\0\x64\0\0\0\x0a").unwrap();
     let opens = Record::Step(StepRecord { step: 1, a: 1, b: 2, ..StepRecord::default() });
     let unknown = Record::Step(StepRecord { step: 99, ..StepRecord::default() });
-    let full = Tables::new(&header);
+    let full = lent::tables(&header);
     let mut short = vec![full.clone(); 8];
     short[0].terms.pop();
     short[1].terms.push(0);
@@ -141,12 +141,12 @@ fn tables_of_other_lengths_are_refused() {
     for tables in short {
         for record in [&opens, &unknown] {
             let mut after = tables.clone();
-            assert_eq!(after.call(record), Answer::Refused(10));
+            assert_eq!(call(&mut after, record), Answer::Refused(10));
             assert_eq!(after, tables);
         }
     }
-    assert_eq!(full.clone().call(&unknown), Answer::Refused(4));
-    assert_eq!(full.clone().call(&opens), ok(Some(0), 5));
+    assert_eq!(call(&mut full.clone(), &unknown), Answer::Refused(4));
+    assert_eq!(call(&mut full.clone(), &opens), ok(Some(0), 5));
 }
 
 /// Tables that do not hold together: 10, and every place as it was.
@@ -154,13 +154,13 @@ fn tables_of_other_lengths_are_refused() {
 fn broken_tables_are_refused() {
     let file = example("case-f.walk");
     let (header, mut rest) = read_header(&file).unwrap();
-    let mut whole = Tables::new(&header);
+    let mut whole = lent::tables(&header);
     while let Some(Ok((record, after))) = read_record(rest) {
         rest = after;
-        whole.call(&record);
+        call(&mut whole, &record);
     }
     let ticks = Record::Step(StepRecord { step: 7, time: 5, ..StepRecord::default() });
-    assert_eq!(whole.clone().call(&ticks), ok(None, 0));
+    assert_eq!(call(&mut whole.clone(), &ticks), ok(None, 0));
     let breaks: [fn(&mut Tables); 17] = [
         |t| t.realm.n = 2,
         |t| t.realm.n = 33,
@@ -184,7 +184,7 @@ fn broken_tables_are_refused() {
         let mut tables = whole.clone();
         broken(&mut tables);
         let before = tables.clone();
-        assert_eq!(tables.call(&ticks), Answer::Refused(10), "{number}");
+        assert_eq!(call(&mut tables, &ticks), Answer::Refused(10), "{number}");
         assert_eq!(tables, before, "{number}");
     }
 }
@@ -204,9 +204,9 @@ fn tables_of_32_principals_hold_together() {
         (33, 0, Answer::Refused(10), Answer::Refused(10)),
     ];
     for (n, flags, ticked, opened) in cases {
-        let mut tables = Tables::new(&header);
+        let mut tables = lent::tables(&header);
         (tables.realm.n, tables.realm.flags) = (n, flags);
-        assert_eq!(tables.clone().call(&ticks), ticked, "n {n}, flags {flags:#x}");
-        assert_eq!(tables.call(&opens), opened, "n {n}, flags {flags:#x}");
+        assert_eq!(call(&mut tables.clone(), &ticks), ticked, "n {n}, flags {flags:#x}");
+        assert_eq!(call(&mut tables, &opens), opened, "n {n}, flags {flags:#x}");
     }
 }

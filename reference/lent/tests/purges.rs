@@ -4,7 +4,7 @@
 
 use generator::purges::each_tick;
 use generator::random::Random;
-use lent::{Answer, Entry, Tables, CACHE_PLACES};
+use lent::{call, Answer, Entry, Tables, CACHE_PLACES};
 use reference::file::{read_header, read_record, Header, Record, Settings, StepRecord};
 use reference::marks::mark;
 use reference::tables::{self, forget, Counts, Place};
@@ -52,7 +52,7 @@ fn compare(tables: &mut Tables, b: u8) {
     let before = places(&tables.cache);
     let mut expected = before.clone();
     let left = forget(&mut expected, tables.realm.entries, b.into(), CLOCK, LIFE).unwrap();
-    assert_eq!(tables.call(&purge(b)), Answer::Ok { run: None, added: 0 });
+    assert_eq!(call(tables, &purge(b)), Answer::Ok { run: None, added: 0 });
     assert_eq!(places(&tables.cache), expected, "{b} of {before:?}");
     assert_eq!(tables.realm.entries, left, "{b} of {before:?}");
 }
@@ -61,7 +61,7 @@ fn compare(tables: &mut Tables, b: u8) {
 /// of another, on what the first has left.
 #[test]
 fn every_pattern_is_left_as_by_the_reference() {
-    let mut tables = Tables::new(&HEADER);
+    let mut tables = lent::tables(&HEADER);
     tables.realm.clock = CLOCK;
     let others = tables.clone();
     for count in 0..=CACHE_PLACES {
@@ -107,7 +107,7 @@ fn walks_leave_every_place_as_the_reference_does() {
     for number in 0..100 {
         let file = each_tick(&mut Random::new(1, number)).bytes;
         let (header, mut rest) = read_header(&file).unwrap();
-        let mut tables = Tables::new(&header);
+        let mut tables = lent::tables(&header);
         tables.terms.fill(u64::MAX);
         tables.runs.fill(u32::MAX);
         tables.cache.fill(NO_ENTRY);
@@ -117,7 +117,7 @@ fn walks_leave_every_place_as_the_reference_does() {
             let entries = expected.counts.entries;
             let accepted = expected.call(&record).is_ok();
             forgotten += entries.saturating_sub(expected.counts.entries);
-            let answer = tables.call(&record);
+            let answer = call(&mut tables, &record);
             assert_eq!(!matches!(answer, Answer::Refused(_)), accepted, "{number}: {record:?}");
             assert_eq!(whole(&tables), expected, "{number}: {record:?}");
         }

@@ -1,0 +1,272 @@
+//! What each command does, and the exit status that it comes to.
+
+use std::fs;
+use std::io::{self, IsTerminal, Write};
+
+use crate::check::{self, Verdict};
+use crate::faults::{Fault, Severity};
+use crate::json;
+use crate::listed::Listed;
+use crate::options::{Command, Options};
+use crate::plain;
+use crate::script::{self, Script};
+use crate::source::{is_utf16, load, Content, Source};
+
+/// Exit statuses. Of many files the highest counts.
+pub const AS_EXPECTED: u8 = 0;
+pub const DIFFERS: u8 = 1;
+pub const BAD_INPUT: u8 = 2;
+pub const FAILED: u8 = 3;
+
+/// What a command made of one file.
+struct Made {
+    status: u8,
+    /// What goes to standard output.
+    output: Vec<u8>,
+    faults: Vec<Fault>,
+}
+
+/// A walk, from a file or from a text with its expectations.
+enum Given {
+    Walk(Listed),
+    Text(Script),
+}
+
+impl Given {
+    fn listed(&self) -> &Listed {
+        match self {
+            Given::Walk(listed) => listed,
+            Given::Text(script) => &script.listed,
+        }
+    }
+
+    fn faults(&self) -> &[Fault] {
+        match self {
+            Given::Walk(_) => &[],
+            Given::Text(script) => &script.faults,
+        }
+    }
+
+    fn verdict(&self) -> Verdict {
+        match self {
+            Given::Walk(listed) => check::listed(listed),
+            Given::Text(script) => check::script(script),
+        }
+    }
+}
+
+/// Runs a command on its files.
+pub fn run(options: &Options) -> u8 {
+    match run_files(options) {
+        Ok(status) => status,
+        Err(error) if error.kind() == io::ErrorKind::BrokenPipe => FAILED,
+        Err(error) => {
+            eprintln!("pogandir: {error}");
+            FAILED
+        }
+    }
+}
+
+fn run_files(options: &Options) -> io::Result<u8> {
+    let mut progress = Progress::new(options.files.len());
+    let mut output = Vec::new();
+    let mut status = AS_EXPECTED;
+    let mut good = 0;
+    for (place, path) in options.files.iter().enumerate() {
+        progress.show(place);
+        let made = match load(path, options.form) {
+            Ok(source) => make(options, source),
+            Err(error) => unread(options, path, &error),
+        };
+        progress.clear();
+        tell_faults(options, path, &made.faults);
+        good += usize::from(made.status == AS_EXPECTED);
+        status = status.max(made.status);
+        if options.json && place > 0 {
+            output.extend(b",\n");
+        }
+        output.extend(made.output);
+        if !options.json {
+            write(options, &mut output)?;
+        }
+    }
+    finish(options, output, good)?;
+    Ok(status)
+}
+
+/// Writes what is left: the whole of JSON, or a last line for many files.
+fn finish(options: &Options, output: Vec<u8>, good: usize) -> io::Result<()> {
+    let files = options.files.len();
+    if options.json {
+        let mut whole = [b"[", &output[..], b"]\n"].concat();
+        return write(options, &mut whole);
+    }
+    if options.command == Command::Check && files > 1 {
+        let line = format!("{files} files, {good} as expected, {} not\n", files - good);
+        return write(options, &mut line.into_bytes());
+    }
+    Ok(())
+}
+
+/// Writes the buffer and empties it.
+fn write(options: &Options, buffer: &mut Vec<u8>) -> io::Result<()> {
+    match &options.output {
+        None => {
+            let mut out = io::stdout().lock();
+            out.write_all(buffer).and_then(|()| out.flush())?;
+        }
+        Some(path) => {
+            let named = |error: io::Error| io::Error::new(error.kind(), format!("{path}: {error}"));
+            fs::write(path, &buffer).map_err(named)?;
+        }
+    }
+    buffer.clear();
+    Ok(())
+}
+
+fn unread(options: &Options, path: &str, error: &io::Error) -> Made {
+    eprintln!("pogandir: {path}: {error}");
+    let fields = [("file", json::string(path)), ("failed", json::string(&error.to_string()))];
+    let output = if options.json { json::object(fields).into_bytes() } else { Vec::new() };
+    Made { status: FAILED, output, faults: Vec::new() }
+}
+
+fn tell_faults(options: &Options, path: &str, faults: &[Fault]) {
+    let name = if path == "-" { "standard input" } else { path };
+    if !options.json {
+        faults.iter().for_each(|fault| eprintln!("{}", fault.at(name)));
+    }
+}
+
+/// What the command makes of one file.
+fn make(options: &Options, source: Source) -> Made {
+    let name = source.name.clone();
+    if options.command == Command::Text {
+        return text(options, source);
+    }
+    if let (Command::Bytes, Content::Walk(bytes)) = (options.command, &source.content) {
+        return no_text(&name, bytes);
+    }
+    let given = match source.content {
+        Content::Walk(bytes) => Given::Walk(Listed::of_bytes(&name, bytes, options.names.clone())),
+        Content::Text(text) => Given::Text(script::read(&name, &text)),
+    };
+    let faults = given.faults().to_vec();
+    if faults.iter().any(Fault::is_error) {
+        return Made {
+            status: BAD_INPUT,
+            output: json_of(options, &name, &faults, vec![]),
+            faults,
+        };
+    }
+    let (status, output) = match options.command {
+        Command::List => (AS_EXPECTED, list(options, given.listed(), &faults)),
+        Command::Check => checked(options, &given, &faults),
+        Command::Sheet => (AS_EXPECTED, sheet(options, given.listed())),
+        _ => (AS_EXPECTED, given.listed().bytes.clone()),
+    };
+    Made { status, output, faults }
+}
+
+/// A file as an object with its faults; nothing where JSON was not asked for.
+fn json_of(
+    options: &Options,
+    name: &str,
+    faults: &[Fault],
+    fields: Vec<(&'static str, String)>,
+) -> Vec<u8> {
+    if !options.json {
+        return Vec::new();
+    }
+    let mut all = vec![("file", json::string(name))];
+    all.extend(fields);
+    all.push(("faults", json::array(faults.iter().map(Fault::json))));
+    json::object(all).into_bytes()
+}
+
+fn list(options: &Options, listed: &Listed, faults: &[Fault]) -> Vec<u8> {
+    if options.json {
+        let lines = json::array(listed.lines.iter().map(|line| json::string(line)));
+        return json_of(options, &listed.name, faults, vec![("listing", lines)]);
+    }
+    let mut output = String::new();
+    if options.files.len() > 1 {
+        output += &format!("==> {} <==\n", listed.name);
+    }
+    listed.lines.iter().for_each(|line| output += &format!("{line}\n"));
+    output.into_bytes()
+}
+
+fn checked(options: &Options, given: &Given, faults: &[Fault]) -> (u8, Vec<u8>) {
+    let verdict = given.verdict();
+    let status = if verdict.holds() { AS_EXPECTED } else { DIFFERS };
+    let output = match options.json {
+        true => json_of(options, &verdict.name, faults, verdict.json_fields()),
+        false => verdict.shown().into_bytes(),
+    };
+    (status, output)
+}
+
+fn sheet(options: &Options, listed: &Listed) -> Vec<u8> {
+    let _ = (options, listed);
+    Vec::new()
+}
+
+/// A walk file in words; a text as it is.
+fn text(options: &Options, source: Source) -> Made {
+    let (lines, faults) = match source.content {
+        Content::Walk(bytes) => {
+            let lines = plain::lines(&bytes);
+            let listed = || Listed::of_bytes(&source.name, bytes.clone(), options.names.clone());
+            (if options.expect { check::expecting(&listed(), &lines) } else { lines }, Vec::new())
+        }
+        Content::Text(_) => {
+            let message = "this is a text already; `pogandir bytes` turns it into a walk file";
+            (Vec::new(), vec![fault_at_start(message.to_string())])
+        }
+    };
+    let status = if faults.is_empty() { AS_EXPECTED } else { BAD_INPUT };
+    let output = lines.iter().flat_map(|line| [line.as_bytes(), b"\n"].concat()).collect();
+    Made { status, output, faults }
+}
+
+/// A walk file, or another file, where a text is expected.
+fn no_text(name: &str, bytes: &[u8]) -> Made {
+    let message = match bytes {
+        _ if is_utf16(bytes) => "this is a text in UTF-16; save it as UTF-8".to_string(),
+        [b'H', ..] => {
+            format!("this is a walk file and no text; `pogandir text {name}` writes it in words")
+        }
+        _ => "this is no text: it has bytes that are no characters".to_string(),
+    };
+    Made { status: BAD_INPUT, output: Vec::new(), faults: vec![fault_at_start(message)] }
+}
+
+fn fault_at_start(message: String) -> Fault {
+    Fault { line: 1, column: 1, severity: Severity::Error, message }
+}
+
+/// A line on standard error that says how far many files have come, where that is
+/// a terminal.
+struct Progress {
+    total: usize,
+    shown: bool,
+}
+
+impl Progress {
+    fn new(total: usize) -> Progress {
+        Progress { total, shown: total > 1 && io::stderr().is_terminal() }
+    }
+
+    fn show(&mut self, done: usize) {
+        if self.shown {
+            eprint!("\r{done} of {} files", self.total);
+        }
+    }
+
+    fn clear(&mut self) {
+        if self.shown {
+            eprint!("\r\x1b[K");
+        }
+    }
+}

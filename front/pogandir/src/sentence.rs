@@ -1,0 +1,428 @@
+//! Sentences: `r0 = panel asks cabinet`, `c0 takes [s0.ticket, r0.authenticator]`.
+//! Each is one step, with the terms before it that its message needs and that are
+//! not there yet. Numbers of runs and terms are what the engine answers.
+
+use engine::{Answer, Call, Header, Role, Stage};
+
+use crate::expect::Outcome;
+use crate::expression::{atom, message, principal, run};
+use crate::message::Message;
+use crate::script::{Done, Meaning, Reader, State};
+use crate::tokens::{number, wrong, Cursor, Token, Wrong};
+use crate::vocabulary::*;
+use crate::walk::Walk;
+
+/// Why a sentence was not performed.
+pub enum Stop {
+    Wrong(Wrong),
+    /// It speaks of a name that a line with a fault should have given.
+    Silent,
+    /// A term that its message needs was refused.
+    Refused(Done),
+}
+
+impl From<Wrong> for Stop {
+    fn from(wrong: Wrong) -> Stop {
+        Stop::Wrong(wrong)
+    }
+}
+
+const FIRST_LINE: &str = "realm 3 principals, ticket life 100, authenticator life 10";
+
+const SENTENCES: &str = "a line is a record (HD, HW, TM, ST, raw) or one of: realm .., NAME = 1, \
+    NAME = P asks Q, NAME = Q waits for P, NAME = server answers RUN, RUN takes MESSAGE, \
+    clock 20, P forgets, leak RUN, intruder derives MESSAGE, term MESSAGE, NAME = MESSAGE, end => ..";
+
+/// Words that begin sentences or stand for something, and so are no names.
+const TAKEN: [&str; 18] = [
+    "server", "now", "realm", "clock", "leak", "term", "intruder", "run", "the", "end", "at", "K",
+    "k", "N", "Ts", "Ta", "raw", "key",
+];
+
+impl Reader {
+    /// The walk as far as it has come.
+    pub fn walk(&self, column: usize) -> Result<&Walk, Wrong> {
+        match &self.state {
+            State::Open(walk) => Ok(walk),
+            State::Start => {
+                wrong(column, format!("a walk begins with its realm, as in: {FIRST_LINE}"))
+            }
+            State::Ended(number) => wrong(
+                column,
+                format!("reading has ended with refusal {number}, {}", Refusal::told(*number)),
+            ),
+            State::Raw => {
+                wrong(column, "raw bytes stand before this: which records there are cannot be said")
+            }
+        }
+    }
+
+    fn give(&mut self, name: &Token, meaning: Meaning) {
+        self.meanings.insert(name.text.clone(), (meaning, self.line));
+    }
+
+    /// Whether a name can be given.
+    fn is_free(&self, name: &Token) -> Result<(), Wrong> {
+        let Token { text, column } = name;
+        if let Some((_, line)) = self.meanings.get(text) {
+            return wrong(*column, format!("'{text}' has a meaning already, from line {line}"));
+        }
+        let is_word = text.chars().all(|c| c.is_alphanumeric() || c == '_' || c == '-');
+        let is_taken = TAKEN.contains(&text.as_str()) || Mark::named(text).is_some();
+        if !is_word || is_taken || number(text).is_some() || atom(text, *column)?.is_some() {
+            let allowed =
+                "letters, digits, - and _, no word of the language, not as t20, N0, k1, p1";
+            return wrong(*column, format!("'{text}' cannot be a name; allowed: {allowed}"));
+        }
+        Ok(())
+    }
+
+    /// The number of a message, its missing parts added: each after its parts, left
+    /// before right, body before key.
+    fn add(&mut self, message: &Message) -> Result<u16, Stop> {
+        if let State::Open(walk) = &self.state {
+            if let Some(number) = message.find(&walk.tables) {
+                return Ok(number);
+            }
+        }
+        let call = self.term_of(message)?;
+        let done = self.call(call);
+        match done.outcome {
+            Outcome::Answered(Answer::Old(number) | Answer::New(number)) => Ok(number),
+            _ => Err(Stop::Refused(done)),
+        }
+    }
+
+    /// The call that adds a message, its parts being there.
+    fn term_of(&mut self, message: &Message) -> Result<Call, Stop> {
+        let (kind, l, r) = match message {
+            Message::Pair(l, r) => (PAIR, l, r),
+            Message::Encrypted(l, r) => (ENCRYPTED, l, r),
+            Message::Present(number) => return Ok(self.term_again(*number)),
+            atom => {
+                let term = atom.atom().expect("it has no parts");
+                return Ok(Call::Term { kind: term.kind, l: term.l, r: term.r });
+            }
+        };
+        let l = self.add(l)?;
+        let r = self.add(r)?;
+        Ok(Call::Term { kind, l, r })
+    }
+
+    fn term_again(&self, number: u16) -> Call {
+        let State::Open(walk) = &self.state else { unreachable!("a term is present in a walk") };
+        let term = walk.tables.term(number).expect("the term is present");
+        Call::Term { kind: term.kind, l: term.l, r: term.r }
+    }
+}
+
+/// A step and its fields, the others being 0.
+fn step(number: u8, run: u8, m: u16) -> Call {
+    Call::Step { step: number, run, a: 0, b: 0, m, t: 0 }
+}
+
+/// Performs a sentence; names and messages that are only named have no record.
+pub fn perform(reader: &mut Reader, mut cursor: Cursor) -> Result<Option<Done>, Stop> {
+    let first = cursor.peek().expect("a line has a word").to_ascii_lowercase();
+    if cursor.second() == Some("=") {
+        return naming(reader, cursor);
+    }
+    if ["realm", "clock", "leak", "term", "intruder"].contains(&first.as_str()) {
+        cursor.next();
+    }
+    let done = match first.as_str() {
+        "realm" => realm(reader, cursor),
+        "clock" => clock(reader, cursor),
+        "leak" => leak(reader, cursor),
+        "term" => term(reader, cursor),
+        "intruder" => derives(reader, cursor),
+        _ => deed(reader, cursor),
+    };
+    done.map(Some)
+}
+
+// ---- the realm
+
+/// realm [HW] 3 principals, ticket life 100, authenticator life 10, bad p1 and p2
+fn realm(reader: &mut Reader, mut cursor: Cursor) -> Result<Done, Stop> {
+    let column = cursor.column();
+    if !matches!(reader.state, State::Start) {
+        return Ok(wrong(column, "a walk has one realm, and this one has begun")?);
+    }
+    let mark = cursor.peek().and_then(Mark::named).filter(|mark| mark.is_header());
+    if mark.is_some() {
+        cursor.next();
+    }
+    let n = cursor.needs_number("the number of principals", u8::MAX.into())? as u8;
+    cursor.needs("principals")?;
+    let mut header = Header {
+        mark: mark.unwrap_or_else(|| mark_for(n)).number(),
+        n,
+        flags: 0,
+        ticket_life: 0,
+        authenticator_life: 0,
+    };
+    while !cursor.is_done() {
+        cursor.needs(",")?;
+        clause(reader, &mut cursor, &mut header)?;
+    }
+    for (life, what) in
+        [(header.ticket_life, "ticket life"), (header.authenticator_life, "authenticator life")]
+    {
+        if life == 0 {
+            return Ok(wrong(column, format!("the realm needs its {what}, as in: {FIRST_LINE}"))?);
+        }
+    }
+    Ok(reader.open(&header))
+}
+
+/// The first mark in the table that allows so many principals, or else the last.
+fn mark_for(n: u8) -> &'static Mark {
+    let mut marks = MARKS.iter().filter(|mark| mark.is_header());
+    let allows = |mark: &&Mark| matches!(mark.purpose, Use::Header { most } if n <= most);
+    marks.clone().find(allows).or_else(|| marks.next_back()).expect("there is a header")
+}
+
+fn clause(reader: &Reader, cursor: &mut Cursor, header: &mut Header) -> Result<(), Stop> {
+    if cursor.takes("ticket") {
+        cursor.needs("life")?;
+        header.ticket_life = cursor.needs_number("the ticket's life", u32::MAX)?;
+    } else if cursor.takes("authenticator") {
+        cursor.needs("life")?;
+        header.authenticator_life = cursor.needs_number("the authenticator's life", u32::MAX)?;
+    } else if cursor.takes("bad") {
+        loop {
+            let column = cursor.column();
+            let bad = principal(reader, cursor)?;
+            if bad >= 32 {
+                return Ok(wrong(
+                    column,
+                    format!("principal {bad} is not there: flags go up to 31"),
+                )?);
+            }
+            header.flags |= 1 << bad;
+            if !(cursor.takes("and") || cursor.takes(",")) {
+                return Ok(());
+            }
+        }
+    } else {
+        let clauses = "ticket life 100, authenticator life 10, bad NAME and NAME";
+        return Ok(wrong(
+            cursor.column(),
+            format!("a clause of the realm is expected here: {clauses}"),
+        )?);
+    }
+    Ok(())
+}
+
+// ---- names
+
+/// NAME = ..
+fn naming(reader: &mut Reader, mut cursor: Cursor) -> Result<Option<Done>, Stop> {
+    let name = cursor.next().expect("there is one");
+    cursor.needs("=")?;
+    if cursor.peek().and_then(number).is_some() && is_number_alone(&cursor) {
+        return principals(reader, name, cursor);
+    }
+    reader.is_free(name)?;
+    if cursor.second().is_some_and(|verb| ["asks", "waits", "answers"].contains(&verb)) {
+        let done = deed(reader, cursor)?;
+        if let Outcome::Answered(Answer::Ok { run: Some(run), .. }) = done.outcome {
+            reader.give(name, Meaning::Run(run));
+        } else {
+            reader.faulty.insert(name.text.clone());
+        }
+        return Ok(Some(done));
+    }
+    let message = message(reader, &mut cursor)?;
+    cursor.needs_end()?;
+    let number = reader.add(&message)?;
+    reader.give(name, Meaning::Message(number));
+    Ok(None)
+}
+
+fn is_number_alone(cursor: &Cursor) -> bool {
+    matches!(cursor.second(), None | Some(","))
+}
+
+/// panel = 1, cabinet = 2
+fn principals(
+    reader: &mut Reader,
+    first: &Token,
+    mut cursor: Cursor,
+) -> Result<Option<Done>, Stop> {
+    let mut name = first;
+    loop {
+        reader.is_free(name)?;
+        let number = cursor.needs_number("the principal's number", u8::MAX.into())?;
+        reader.give(name, Meaning::Principal(number as u8));
+        if cursor.is_done() {
+            break;
+        }
+        cursor.needs(",")?;
+        name = cursor.needs_any("a name")?;
+        cursor.needs("=")?;
+    }
+    Ok(None)
+}
+
+// ---- steps
+
+fn clock(reader: &mut Reader, mut cursor: Cursor) -> Result<Done, Stop> {
+    reader.walk(cursor.column())?;
+    let t = cursor.needs_number("the clock", u32::MAX)?;
+    cursor.needs_end()?;
+    Ok(reader.call(Call::Step { step: CLOCK, run: 0, a: 0, b: 0, m: 0, t }))
+}
+
+fn leak(reader: &mut Reader, mut cursor: Cursor) -> Result<Done, Stop> {
+    reader.walk(cursor.column())?;
+    let run = run(reader, &mut cursor)?;
+    cursor.needs_end()?;
+    Ok(reader.call(step(LEAK, run, 0)))
+}
+
+/// Adds a message, and says its number also where it is there.
+fn term(reader: &mut Reader, mut cursor: Cursor) -> Result<Done, Stop> {
+    reader.walk(cursor.column())?;
+    let message = message(reader, &mut cursor)?;
+    cursor.needs_end()?;
+    let call = reader.term_of(&message)?;
+    Ok(reader.call(call))
+}
+
+fn derives(reader: &mut Reader, mut cursor: Cursor) -> Result<Done, Stop> {
+    reader.walk(cursor.column())?;
+    cursor.needs("derives")?;
+    let message = message(reader, &mut cursor)?;
+    cursor.needs_end()?;
+    let m = reader.add(&message)?;
+    Ok(reader.call(step(DERIVE, 0, m)))
+}
+
+/// Who does what: P asks Q, Q waits for P, server answers, P forgets, RUN takes ..
+fn deed(reader: &mut Reader, mut cursor: Cursor) -> Result<Done, Stop> {
+    let start = cursor.column();
+    let subject = cursor.clone();
+    cursor.next();
+    if subject.peek() == Some("run") {
+        cursor.next();
+    }
+    let verb = cursor.next().map_or("", |token| token.text.as_str());
+    if !["asks", "waits", "answers", "forgets", "takes"].contains(&verb) {
+        return Ok(wrong(start, format!("this is no sentence; {SENTENCES}"))?);
+    }
+    reader.walk(start)?;
+    match verb {
+        "asks" | "waits" => opens(reader, subject, verb, cursor),
+        "answers" => answers(reader, subject, cursor),
+        "forgets" => {
+            let b = principal(reader, &mut subject.clone())?;
+            cursor.needs_end()?;
+            Ok(reader.call(Call::Step { step: FORGET, run: 0, a: 0, b, m: 0, t: 0 }))
+        }
+        _ => takes(reader, subject, cursor),
+    }
+}
+
+fn opens(
+    reader: &mut Reader,
+    mut subject: Cursor,
+    verb: &str,
+    mut cursor: Cursor,
+) -> Result<Done, Stop> {
+    let who = principal(reader, &mut subject)?;
+    cursor.takes("for");
+    let whom = principal(reader, &mut cursor)?;
+    cursor.needs_end()?;
+    let (number, a, b) = if verb == "asks" { (ASK, who, whom) } else { (WAIT, whom, who) };
+    Ok(reader.call(Call::Step { step: number, run: 0, a, b, m: 0, t: 0 }))
+}
+
+/// The server answers a run's request, or any message.
+fn answers(reader: &mut Reader, subject: Cursor, mut cursor: Cursor) -> Result<Done, Stop> {
+    if subject.peek() != Some("server") {
+        return Ok(wrong(subject.column(), "the server answers, nobody else")?);
+    }
+    let named = cursor.peek().and_then(|name| reader.meanings.get(name));
+    let message = match named {
+        Some((Meaning::Run(run), _)) => {
+            let run = *run;
+            let column = cursor.column();
+            cursor.next();
+            request(reader.walk(column)?, run).map_or_else(
+                || wrong(column, "this run has sent no request: only an initiator's has"),
+                |term| Ok(Message::Present(term)),
+            )?
+        }
+        _ => message(reader, &mut cursor)?,
+    };
+    cursor.needs_end()?;
+    let m = reader.add(&message)?;
+    Ok(reader.call(step(ANSWER, 0, m)))
+}
+
+fn request(walk: &Walk, run: u8) -> Option<u16> {
+    let mut sent = walk.taken.iter().flat_map(|taken| &taken.sent);
+    sent.find(|sent| sent.run == run && sent.name == "request").map(|sent| sent.term)
+}
+
+/// RUN takes [the] [reply | delivery | confirmation] MESSAGE. Where the message is
+/// not named, the run's role and stage say which step it is.
+fn takes(reader: &mut Reader, mut subject: Cursor, mut cursor: Cursor) -> Result<Done, Stop> {
+    let run = run(reader, &mut subject)?;
+    cursor.takes("the");
+    let named = cursor.peek().filter(|_| cursor.second().is_some()).and_then(Step::taking);
+    if named.is_some() {
+        cursor.next();
+    }
+    let row = reader.walk(cursor.column())?.tables.run(run).expect("the run is there");
+    let number = named.map(|step| step.number).unwrap_or(match (row.role, row.stage) {
+        (Role::Responder, _) => TAKE_DELIVERY,
+        (Role::Initiator, Stage::Opened) => TAKE_REPLY,
+        (Role::Initiator, _) => TAKE_CONFIRMATION,
+        (Role::Server, _) => {
+            return Ok(wrong(subject.column(), "a server run takes nothing: it is done")?);
+        }
+    });
+    let message = message(reader, &mut cursor)?;
+    cursor.needs_end()?;
+    let m = reader.add(&message)?;
+    Ok(reader.call(step(number, run, m)))
+}
+
+// ---- the end
+
+/// What the listing's last line is expected to tell.
+#[derive(Clone, Debug, Default, PartialEq, Eq)]
+pub struct Ending {
+    pub line: usize,
+    /// A word of the line, `runs`, `wire`, `cache` or `clock`, and its number.
+    pub counts: Vec<(String, u32)>,
+}
+
+/// Whether a line is `end =>` or `at the end =>`.
+pub fn is_ending(body: &[Token]) -> bool {
+    let words: Vec<&str> = body.iter().map(|token| token.text.as_str()).collect();
+    matches!(words[..], ["end"] | ["at", "the", "end"])
+}
+
+impl Ending {
+    pub fn read(line: usize, mut cursor: Cursor) -> Result<Ending, Wrong> {
+        let mut ending = Ending { line, counts: Vec::new() };
+        loop {
+            let word = cursor.needs_any("runs, wire, cache or clock, and a number,")?;
+            if !["runs", "wire", "cache", "clock"].contains(&word.text.as_str()) {
+                return wrong(
+                    word.column,
+                    format!("'{}' is not told at the end; runs, wire, cache, clock are", word.text),
+                );
+            }
+            ending.counts.push((word.text.clone(), cursor.needs_number(&word.text, u32::MAX)?));
+            cursor.takes(",");
+            if cursor.is_done() {
+                return Ok(ending);
+            }
+        }
+    }
+}
