@@ -81,7 +81,7 @@ pub fn read(mut cursor: Cursor) -> Result<Expected, Wrong> {
 /// The next token as a number, if it is one.
 fn optional(cursor: &mut Cursor) -> Option<u32> {
     let number = cursor.peek().and_then(number)?;
-    cursor.next();
+    cursor.advance();
     u32::try_from(number).ok()
 }
 
@@ -101,7 +101,7 @@ fn added(cursor: &mut Cursor) -> Result<Option<u32>, Wrong> {
     let Some(count) = digits.and_then(|count| u32::try_from(count).ok()) else {
         return wrong(column, format!("'{text}' is not of the form +5"));
     };
-    cursor.next();
+    cursor.advance();
     Ok(Some(count))
 }
 

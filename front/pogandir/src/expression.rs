@@ -1,10 +1,11 @@
 //! Messages as a planner writes them: [p, q, r], {m}k, names, `s0.ticket`, `k(s0)`,
 //! `t20`. What a name stands for is looked up, nothing is added to a table here.
 
-use engine::Role;
+use engine::{Role, Run, Stage};
 
 use crate::message::{list, Message};
-use crate::script::{Meaning, Reader};
+use crate::notation::Meaning;
+use crate::script::Reader;
 use crate::sentence::Stop;
 use crate::tokens::{number, wrong, Cursor, Token, Wrong};
 use crate::vocabulary::{MOST_NONCE_OR_KEY, STEPS};
@@ -71,12 +72,31 @@ fn of_run(
     let number = run(reader, cursor)?;
     cursor.needs(")")?;
     let row = reader.walk(column)?.tables.run(number).expect("the run is there");
+    if !holds(&row, name) {
+        let run = reader.walk(column)?.names.run(number);
+        return Ok(wrong(column, format!("{run} has no {name}: {}", why_not(&row)))?);
+    }
     Ok(match name {
         "k" => Message::SessionKey(row.k.into()),
         "N" => Message::Nonce(number.into()),
         "Ts" => Message::Time(row.ts),
         _ => Message::Time(row.ta),
     })
+}
+
+/// Whether a run holds the value: K and Ts once it took them, Ta too unless it is
+/// the server's. Each has a nonce.
+fn holds(run: &Run, name: &str) -> bool {
+    let taken = run.stage != Stage::Opened;
+    name == "N" || taken && (name != "Ta" || run.role != Role::Server)
+}
+
+fn why_not(run: &Run) -> &'static str {
+    match run.role {
+        Role::Initiator => "it has not taken a reply",
+        Role::Responder => "it has not taken a delivery",
+        Role::Server => "a server run has none",
+    }
 }
 
 fn word(reader: &Reader, cursor: &mut Cursor, token: &Token) -> Result<Message, Stop> {

@@ -15,6 +15,14 @@ use crate::vocabulary::{ENCRYPTED, LONG_TERM_KEY, NONCE, PAIR, PRINCIPAL, SESSIO
 const DEPTH: usize = 6;
 const PARTS: usize = 48;
 
+/// What a planner's name stands for.
+#[derive(Clone, Copy, Debug, PartialEq, Eq)]
+pub enum Meaning {
+    Principal(u8),
+    Run(u8),
+    Message(u16),
+}
+
 /// The planner's names of principals and runs.
 #[derive(Clone, Debug, Default, PartialEq, Eq)]
 pub struct Names {
@@ -23,6 +31,15 @@ pub struct Names {
 }
 
 impl Names {
+    /// A message is shown in full, whatever its name.
+    pub fn give(&mut self, name: &str, meaning: Meaning) {
+        match meaning {
+            Meaning::Principal(number) => drop(self.principals.insert(number, name.to_string())),
+            Meaning::Run(number) => drop(self.runs.insert(number, name.to_string())),
+            Meaning::Message(_) => {}
+        }
+    }
+
     pub fn principal(&self, number: u8) -> String {
         match self.principals.get(&number) {
             Some(name) => name.clone(),

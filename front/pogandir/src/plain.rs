@@ -23,7 +23,7 @@ pub fn begins(word: &str) -> bool {
 
 /// Reads a line; all that is wrong with it is told.
 pub fn read(mut cursor: Cursor) -> Result<Plain, Vec<Wrong>> {
-    let word = cursor.next().expect("a line has a word");
+    let word = cursor.advance().expect("a line has a word");
     match Mark::named(&word.text) {
         Some(mark) => read_record(mark, cursor).map(Plain::Record),
         None => read_raw(cursor).map(Plain::Raw),
@@ -36,7 +36,7 @@ fn read_raw(mut cursor: Cursor) -> Result<Vec<u8>, Vec<Wrong>> {
     if cursor.is_done() {
         faults.extend(wrong::<()>(cursor.column(), "raw needs at least one byte").err());
     }
-    while let Some(token) = cursor.next() {
+    while let Some(token) = cursor.advance() {
         let digits = token.text.len() == 2 && token.text.chars().all(|c| c.is_ascii_hexdigit());
         match u8::from_str_radix(&token.text, 16) {
             Ok(byte) if digits => bytes.push(byte),
@@ -77,18 +77,18 @@ fn read_leading(mark: &Mark, leading: &str, cursor: &mut Cursor) -> Result<u32, 
     if cursor.peek().is_none() || cursor.second() == Some("=") {
         return wrong(cursor.column(), format!("{} needs its {leading} first", mark.letters));
     }
-    let token = cursor.next().expect("there is one");
+    let token = cursor.advance().expect("there is one");
     read_number(&mark.fields[0], &token.text, token.column)
 }
 
 fn read_field(mark: &Mark, cursor: &mut Cursor, values: &mut [Option<u32>]) -> Result<(), Wrong> {
-    let token = cursor.next().expect("the line goes on");
+    let token = cursor.advance().expect("the line goes on");
     if !cursor.takes("=") {
         return wrong(token.column, format!("'{}' is not of the form field=number", token.text));
     }
     // the number is taken even where the field is wrong, so that reading goes on behind it
     let column = cursor.column();
-    let value = if cursor.second() == Some("=") { None } else { cursor.next() };
+    let value = if cursor.second() == Some("=") { None } else { cursor.advance() };
     let named = |field: &&Field| field.name.eq_ignore_ascii_case(&token.text);
     let place = mark.fields.iter().position(|field| named(&field));
     let Some(place) = place.filter(|&place| mark.leading() != Some(mark.fields[place].name)) else {

@@ -9,7 +9,7 @@ use engine::{Call, Header};
 use crate::expect::{self, Expected, Outcome};
 use crate::faults::{Fault, Severity};
 use crate::listed::Listed;
-use crate::notation::Names;
+use crate::notation::{Meaning, Names};
 use crate::plain::{self, Plain};
 use crate::reason;
 use crate::record::Record;
@@ -45,14 +45,6 @@ impl Script {
     }
 }
 
-/// What a name stands for, and the line that says so.
-#[derive(Clone, Copy, Debug, PartialEq, Eq)]
-pub enum Meaning {
-    Principal(u8),
-    Run(u8),
-    Message(u16),
-}
-
 /// How far the records are read.
 #[derive(Debug)]
 pub enum State {
@@ -73,6 +65,7 @@ pub struct Done {
 
 pub struct Reader {
     pub state: State,
+    /// What each name stands for, and the line that says so.
     pub meanings: BTreeMap<String, (Meaning, usize)>,
     /// Names that a line with a fault would have given.
     pub faulty: BTreeSet<String>,
@@ -108,14 +101,18 @@ pub fn read(name: &str, text: &str) -> Script {
 }
 
 impl Reader {
-    pub fn names(&self) -> Names {
+    /// Gives a name its meaning from this line on.
+    pub fn give(&mut self, name: &str, meaning: Meaning) {
+        self.meanings.insert(name.to_string(), (meaning, self.line));
+        if let State::Open(walk) = &mut self.state {
+            walk.names.give(name, meaning);
+        }
+    }
+
+    fn names(&self) -> Names {
         let mut names = Names::default();
         for (name, &(meaning, _)) in &self.meanings {
-            match meaning {
-                Meaning::Principal(number) => drop(names.principals.insert(number, name.clone())),
-                Meaning::Run(number) => drop(names.runs.insert(number, name.clone())),
-                Meaning::Message(_) => {}
-            }
+            names.give(name, meaning);
         }
         names
     }
@@ -283,10 +280,6 @@ impl Reader {
             self.warn(column, format!("this gets refusal {number}, {words}: {reason}"));
         }
         self.told.push(Told { line: self.line, record, outcome, reason, expected });
-        let names = self.names();
-        if let State::Open(walk) = &mut self.state {
-            walk.names = names;
-        }
     }
 
     fn finish(mut self, name: &str) -> Script {

@@ -7,7 +7,8 @@ use engine::{Answer, Call, Header, Role, Stage};
 use crate::expect::Outcome;
 use crate::expression::{atom, message, principal, run};
 use crate::message::Message;
-use crate::script::{Done, Meaning, Reader, State};
+use crate::notation::Meaning;
+use crate::script::{Done, Reader, State};
 use crate::tokens::{number, wrong, Cursor, Token, Wrong};
 use crate::vocabulary::*;
 use crate::walk::Walk;
@@ -55,10 +56,6 @@ impl Reader {
                 wrong(column, "raw bytes stand before this: which records there are cannot be said")
             }
         }
-    }
-
-    fn give(&mut self, name: &Token, meaning: Meaning) {
-        self.meanings.insert(name.text.clone(), (meaning, self.line));
     }
 
     /// Whether a name can be given.
@@ -128,7 +125,7 @@ pub fn perform(reader: &mut Reader, mut cursor: Cursor) -> Result<Option<Done>, 
         return naming(reader, cursor);
     }
     if ["realm", "clock", "leak", "term", "intruder"].contains(&first.as_str()) {
-        cursor.next();
+        cursor.advance();
     }
     let done = match first.as_str() {
         "realm" => realm(reader, cursor),
@@ -151,7 +148,7 @@ fn realm(reader: &mut Reader, mut cursor: Cursor) -> Result<Done, Stop> {
     }
     let mark = cursor.peek().and_then(Mark::named).filter(|mark| mark.is_header());
     if mark.is_some() {
-        cursor.next();
+        cursor.advance();
     }
     let n = cursor.needs_number("the number of principals", u8::MAX.into())? as u8;
     cursor.needs("principals")?;
@@ -219,7 +216,7 @@ fn clause(reader: &Reader, cursor: &mut Cursor, header: &mut Header) -> Result<(
 
 /// NAME = ..
 fn naming(reader: &mut Reader, mut cursor: Cursor) -> Result<Option<Done>, Stop> {
-    let name = cursor.next().expect("there is one");
+    let name = cursor.advance().expect("there is one");
     cursor.needs("=")?;
     if cursor.peek().and_then(number).is_some() && is_number_alone(&cursor) {
         return principals(reader, name, cursor);
@@ -228,7 +225,7 @@ fn naming(reader: &mut Reader, mut cursor: Cursor) -> Result<Option<Done>, Stop>
     if cursor.second().is_some_and(|verb| ["asks", "waits", "answers"].contains(&verb)) {
         let done = deed(reader, cursor)?;
         if let Outcome::Answered(Answer::Ok { run: Some(run), .. }) = done.outcome {
-            reader.give(name, Meaning::Run(run));
+            reader.give(&name.text, Meaning::Run(run));
         } else {
             reader.faulty.insert(name.text.clone());
         }
@@ -237,7 +234,7 @@ fn naming(reader: &mut Reader, mut cursor: Cursor) -> Result<Option<Done>, Stop>
     let message = message(reader, &mut cursor)?;
     cursor.needs_end()?;
     let number = reader.add(&message)?;
-    reader.give(name, Meaning::Message(number));
+    reader.give(&name.text, Meaning::Message(number));
     Ok(None)
 }
 
@@ -255,7 +252,7 @@ fn principals(
     loop {
         reader.is_free(name)?;
         let number = cursor.needs_number("the principal's number", u8::MAX.into())?;
-        reader.give(name, Meaning::Principal(number as u8));
+        reader.give(&name.text, Meaning::Principal(number as u8));
         if cursor.is_done() {
             break;
         }
@@ -304,11 +301,11 @@ fn derives(reader: &mut Reader, mut cursor: Cursor) -> Result<Done, Stop> {
 fn deed(reader: &mut Reader, mut cursor: Cursor) -> Result<Done, Stop> {
     let start = cursor.column();
     let subject = cursor.clone();
-    cursor.next();
+    cursor.advance();
     if subject.peek() == Some("run") {
-        cursor.next();
+        cursor.advance();
     }
-    let verb = cursor.next().map_or("", |token| token.text.as_str());
+    let verb = cursor.advance().map_or("", |token| token.text.as_str());
     if !["asks", "waits", "answers", "forgets", "takes"].contains(&verb) {
         return Ok(wrong(start, format!("this is no sentence; {SENTENCES}"))?);
     }
@@ -349,7 +346,7 @@ fn answers(reader: &mut Reader, subject: Cursor, mut cursor: Cursor) -> Result<D
         Some((Meaning::Run(run), _)) => {
             let run = *run;
             let column = cursor.column();
-            cursor.next();
+            cursor.advance();
             request(reader.walk(column)?, run).map_or_else(
                 || wrong(column, "this run has sent no request: only an initiator's has"),
                 |term| Ok(Message::Present(term)),
@@ -374,7 +371,7 @@ fn takes(reader: &mut Reader, mut subject: Cursor, mut cursor: Cursor) -> Result
     cursor.takes("the");
     let named = cursor.peek().filter(|_| cursor.second().is_some()).and_then(Step::taking);
     if named.is_some() {
-        cursor.next();
+        cursor.advance();
     }
     let row = reader.walk(cursor.column())?.tables.run(run).expect("the run is there");
     let number = named.map(|step| step.number).unwrap_or(match (row.role, row.stage) {

@@ -79,7 +79,7 @@ impl<'a> Cursor<'a> {
         self.tokens.is_empty()
     }
 
-    pub fn next(&mut self) -> Option<&'a Token> {
+    pub fn advance(&mut self) -> Option<&'a Token> {
         let (first, rest) = self.tokens.split_first()?;
         self.tokens = rest;
         Some(first)
@@ -89,7 +89,7 @@ impl<'a> Cursor<'a> {
     pub fn takes(&mut self, word: &str) -> bool {
         let is_it = self.peek().is_some_and(|next| next.eq_ignore_ascii_case(word));
         if is_it {
-            self.next();
+            self.advance();
         }
         is_it
     }
@@ -105,7 +105,7 @@ impl<'a> Cursor<'a> {
     /// The next token, which must be there.
     pub fn needs_any(&mut self, what: &str) -> Result<&'a Token, Wrong> {
         let column = self.column();
-        self.next().map_or_else(|| wrong(column, format!("{what} is expected here")), Ok)
+        self.advance().map_or_else(|| wrong(column, format!("{what} is expected here")), Ok)
     }
 
     /// A number in decimal, or in hexadecimal after 0x.

@@ -243,6 +243,23 @@ fn faults_name_their_place_and_what_is_allowed() {
     }
 }
 
+/// A value that a run does not hold is not read as 0.
+#[test]
+fn runs_tell_only_what_they_hold() {
+    let start = "r0 = panel asks cabinet\ns0 = server answers r0\nc0 = cabinet waits for panel\n";
+    let cases = [
+        ("k(r0)", "r0 has no k: it has not taken a reply"),
+        ("Ts(c0)", "c0 has no Ts: it has not taken a delivery"),
+        ("Ta(s0)", "s0 has no Ta: a server run has none"),
+    ];
+    for (message, told) in cases {
+        let errors = errors(&format!("{start}term {message}"));
+        assert_eq!(errors[0].2, told);
+    }
+    let held = "r0 takes s0.reply\nterm {N(r0), Ts(s0), Ts(r0), Ta(r0), k(r0)}k(s0)";
+    assert_eq!(errors(&format!("{start}{held}")), []);
+}
+
 #[test]
 fn a_fault_is_told_once() {
     let text = "r0 = panel aks cabinet\ns0 = server answers r0\nr0 takes s0.reply\n\
