@@ -112,7 +112,7 @@ fn realms_have_their_headers() {
             format!("x = 2\nrealm 4 principals, {lives}, bad x and p3"),
             "HD n=4 flags=0x000c Ls=7 La=8",
         ),
-        (format!("Realm 4 Principals, bad 1, 2"), ""),
+        ("Realm 4 Principals, bad 1, 2".to_string(), ""),
     ];
     for (text, expected) in cases {
         let script = read("text", &text);
