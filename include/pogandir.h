@@ -238,8 +238,8 @@ pogandir_opened pogandir_open(pogandir_header header);
 /* Adds a term or takes a step.
  *
  * terms has POGANDIR_TERMS places, runs POGANDIR_RUN_WORDS, wire
- * POGANDIR_WIRE_WORDS and cache POGANDIR_CACHE_PLACES; what else the lengths
- * say is answered 10.
+ * POGANDIR_WIRE_WORDS and cache POGANDIR_CACHE_PLACES; any other length is
+ * answered 10.
  *
  * The answer is the first refusal that applies, or what the call gives:
  *   - a term: POGANDIR_ANSWER_NUMBER, its number, and added is 1 if it is new,
@@ -265,13 +265,14 @@ pogandir_reply pogandir_call(pogandir_realm realm,
 
 /* Which terms the intruder can derive, all at once.
  *
- * Reads the realm's header values and its number of terms, terms and wire; the
- * runs and the replay cache are not asked for. out has POGANDIR_WIRE_WORDS
- * words.
+ * Reads the realm's header values and its number of terms, the terms and the
+ * wire. The clock, the runs and the replay cache have no part in it. out has
+ * POGANDIR_WIRE_WORDS words.
  *
- * 0: bit i of out is set if and only if term i is present and the intruder can
- * derive it. 10: the header values, terms and wire do not hold together, or
- * out has not eight words; out is as it was. Nothing else changes. */
+ * 0: bit i of out (see pogandir_has) is set if and only if term i is present
+ * and the intruder can derive it. 10: the header values, the terms and the
+ * wire do not hold together, or a length is not the full one; out is as it
+ * was. No other table is written. */
 uint8_t pogandir_known(pogandir_realm realm,
                        const uint64_t *terms, size_t terms_length,
                        const uint64_t *wire, size_t wire_length,
