@@ -1,4 +1,4 @@
--- A call, its answer, a listing and a written walk as the numbers that cross to other languages.
+-- A new realm, a call, its answer, a listing and a written walk as the numbers that cross to other languages.
 -- Assumes nothing.
 use Prim.Native.Nat.{ℕ}
 use mathlib.Core.Path.{_≡_}
@@ -10,6 +10,9 @@ use Rattle.exchange.specs.declared.call.Call.{Call}
 use Rattle.exchange.specs.declared.call.Call.the-variants.{Term, Step}
 use Rattle.exchange.specs.declared.call.Names.the-variants.{Run, Nobody}
 use Rattle.exchange.specs.Calls.{addedBy}
+use Rattle.realm.specs.declared.header.Opening.{Opening}
+use Rattle.realm.specs.declared.header.Opening.the-variants as opening
+use Rattle.realm.specs.declared.header.Realm.{Realm}
 use Rattle.realm.specs.Tables.{Tables}
 use Rattle.effects.specs.Apply.{Outcome}
 use Rattle.calls.specs.declared.Called.{Called}
@@ -19,8 +22,20 @@ use Rattle.writer.specs.declared.walk.Filing.the-variants as filing
 use Rattle.writer.specs.Write.{WriteOutcome}
 use Rattle.exported.specs.declared.Filed.{Filed}
 use Rattle.exported.specs.declared.Listed.{Listed}
+use Rattle.exported.specs.declared.Opened.{Opened}
 use Rattle.exported.specs.declared.Record.{Record}
 use Rattle.exported.specs.declared.Reply.{Reply}
+
+-- ---- a new realm
+
+-- a realm of zeros
+abbrev pub noRealm : Realm
+noRealm = record { n = 0; flags = 0; ls = 0; la = 0; clock = 0; terms = 0; runs = 0; entries = 0 }
+
+-- the realm and 0, or a realm of zeros and the refusal's number
+abbrev pub openedAs : Opening → Opened
+openedAs (opening.Open h) = record { realm = h; refusal = 0 }
+openedAs (opening.Refused number) = record { realm = noRealm; refusal = number }
 
 -- ---- a call
 

@@ -1,5 +1,5 @@
-// The public call, the listing of a walk file, and a walk written as a file, for programs in other languages. An exported function
-// takes numbers, slices and structs of numbers, so calls and answers are structs of numbers here.
+// A new realm, the public call, the listing of a walk file, and a walk written as a file, for programs in other languages. An exported
+// function takes numbers, slices and structs of numbers, so calls and answers are structs of numbers here.
 use calls::Called;
 use calls::call;
 use exchange::call::Answer;
@@ -7,18 +7,54 @@ use exchange::call::Call;
 use exchange::call::Names;
 use exchange::call::added;
 use exchange::header::Header;
+use realm::header::Opening;
 use realm::header::Realm;
+use realm::header::open_realm;
 use replay::entry::Entry;
 use walkfile::Listing;
 use walkfile::list;
 use writer::walk::Filing;
 use writer::walk::write_walk;
 ghost use mathlib.Core.Path.{_≡_};
+ghost use Rattle.realm.specs.Opening.{openingOf};
 ghost use Rattle.realm.specs.Tables.{tables};
 ghost use Rattle.calls.specs.Lent.{lentCall};
 ghost use Rattle.walkfile.specs.Listing.{listed};
 ghost use Rattle.writer.specs.Write.{writeOf};
-ghost use Rattle.exported.specs.Numbers.{callOf, answerKind, answerNumber, replyOf, replied, shown, filed};
+ghost use Rattle.exported.specs.Numbers.{openedAs, callOf, answerKind, answerNumber, replyOf, replied, shown, filed};
+
+// A new realm and 0; or a realm of zeros, on which every call gives 10, and the number of the refusal.
+#[repr(C)]
+pub struct Opened {
+    pub realm: Realm,
+    pub refusal: u8,
+}
+
+// A realm of zeros: it has no principals, so no tables hold together with it.
+const NO_REALM: Realm = Realm {
+    n: 0,
+    flags: 0,
+    ls: 0,
+    la: 0,
+    clock: 0,
+    terms: 0,
+    runs: 0,
+    entries: 0,
+};
+
+// A new realm, if the header opens one.
+#[no_mangle]
+pub extern "C" fn pogandir_open(header: Header) -> Opened
+    ensures { λ r. ⌜ r ≡ openedAs (openingOf header) ⌝ }
+{
+    match open_realm(header) {
+        Opening::Open(realm) => Opened { realm, refusal: 0 },
+        Opening::Refused(refusal) => Opened {
+            realm: NO_REALM,
+            refusal,
+        },
+    }
+}
 
 // A call: a term where `adds`, with the next three fields, or else a step, with the others.
 // Fields that are not used may hold anything.
