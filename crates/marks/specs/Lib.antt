@@ -6,3 +6,4 @@ pub mod Empty
 pub mod Grown
 pub mod Within
 pub mod Parts
+pub mod Sets

@@ -1,10 +1,10 @@
 -- Eight words of a longer list are a packed set of their own: three sets in one list are three parts of it.
 -- Assumes nothing.
 use mathlib.Core.Path.{_≡_, sym, ap, _∙_}
-use mathlib.Core.List.{List, _++_, append-assoc}
+use mathlib.Core.List.{List, _++_, append-assoc, append-nil}
 use Prim.Native.Nat.{ℕ, _+_, _*_, _-_, _/_, _%_, _<_, _≤_}
 use native.Mathlib.Omega.{arith}
-use lib.ListN.{length, getD, take, drop, length-drop, List·getD-append}
+use lib.ListN.{length, getD, take, drop, length-drop, drop-of-length-le, List·getD-append}
 use lib.Seq.{length-take-le, take-all, take-at, drop-at, getD-take, getD-drop, take-set-lt, take-set-le, drop-set-add, drop-set-lt, ext-getD, paste, length-paste-head, length-paste}
 use Rattle.marks.specs.Marks.{mark, marked, withMark}
 
@@ -63,6 +63,10 @@ module _ (at : ℕ) (ws s : List ℕ) (h : at + 8 ≤ length ws) (eight : length
 
   pub stored-length : length (paste ws at s 8) ≡ length ws
   stored-length = length-paste ws at s 8 h (omega arith)
+
+  -- a list of eight words is written over
+  pub stored-whole : at ≡ 0 → length ws ≡ 8 → paste ws at s 8 ≡ s
+  stored-whole z e = rw (z, take-all 8 s (omega arith), drop-of-length-le ws {i = 8} (omega arith)) (append-nil s)
 
   -- an earlier part stays as it was
   pub part-before : (b : ℕ) → b + 8 ≤ at → part b (paste ws at s 8) ≡ part b ws

@@ -2,12 +2,14 @@
 -- definitions. All are over any number of words.
 -- Assumes nothing.
 use mathlib.Core.Path.{_≡_}
-use mathlib.Core.Bool.{true, false}
+use mathlib.Core.Logic.{_↔_}
+use mathlib.Core.Bool.{Bool, true, false}
 use mathlib.Core.List.{List}
 use Prim.Native.Nat.{ℕ, suc, _*_, _<_, _≤_}
 use lib.ListN.{length}
 use Rattle.marks.specs.Marks.{Words, marked, withMark, size}
 use Rattle.marks.specs.Marks as marks
+use Rattle.marks.specs.Sets as sets
 use Rattle.marks.specs.Size as sizes
 use Rattle.marks.specs.Within as withins
 
@@ -34,3 +36,11 @@ at-most w = sizes.size-le w
 -- `within` says that every member is below the bound.
 pub bounded : (ws : List ℕ) (bound : ℕ) → withins.within ws bound ≡ true → (i : ℕ) → marked ws i ≡ true → i < bound
 bounded ws bound e i m = withins.within-is ws bound e i m
+
+-- The members of `setOf` are the numbers below the bound that pass the test,
+pub members : (k : ℕ) (test : ℕ → Bool) (n : ℕ) → n ≤ 64 * k → (i : ℕ) → (marked (sets.setOf k test n) i ≡ true) ↔ ((i < n) × (test i ≡ true))
+members k test n h i = sets.set-exact k test n h i
+
+-- and packed sets with the same members are the same words.
+pub same : {k : ℕ} {vs ws : List ℕ} → Words k vs → Words k ws → ((i : ℕ) → marked vs i ≡ marked ws i) → vs ≡ ws
+same v w e = sets.same-words v w e
