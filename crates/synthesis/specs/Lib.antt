@@ -7,4 +7,5 @@ pub mod Test
 pub mod Knowledge
 pub mod Noted
 pub mod Growth
+pub mod All
 pub mod Lent

@@ -1,5 +1,6 @@
--- What the crate promises beside the contracts of its functions. Test has the definition of the test as a function, Lent that
--- of the answers of `can_derive`, Knowledge what is kept from question to question; the other files are about how it finds out.
+-- What the crate promises beside the contracts of its functions. Test has the definition of the test as a function, Lent that of the
+-- answers of `can_derive` and of what `derive_terms` gives, Knowledge what is kept from question to question; the other files are about
+-- how it finds out.
 -- Assumes nothing.
 use mathlib.Core.Logic.{_↔_}
 use mathlib.Core.Path.{_≡_, subst}
@@ -15,7 +16,8 @@ use Rattle.deduction.specs.Known.{Derivable}
 use Rattle.synthesis.specs.declared.lent.Answer.{Answer}
 use Rattle.synthesis.specs.Growth.{knows-later}
 use Rattle.synthesis.specs.Knowledge.{wireIn, foundIn, missedIn, Kept}
-use Rattle.synthesis.specs.Lent.{canDerive, Applies, answer-applies, applies-answer}
+use Rattle.synthesis.specs.Lent as lent
+use Rattle.synthesis.specs.Lent.{canDerive, derivedOf, Applies, answer-applies, applies-answer}
 use Rattle.synthesis.specs.Test.{derivableOf, test-decides}
 
 -- The test as a function, by which a caller can state what it refuses, answers exactly whether the message is in the least set,
@@ -32,6 +34,11 @@ function-unique flags v w t h r d = same-answer r _ d (test-decides flags v w t 
 pub answer-exact : {n flags : ℕ} {ts : List ℕ} {count : ℕ} {ws : List ℕ} → ((j : ℕ) → getD ws j 0 < 2 ^ 64) → {t : ℕ} {r : Answer}
     → (canDerive n flags ts count ws t ≡ r) ↔ Applies n flags ts count ws t r
 answer-exact fit = (λ e. subst (Applies _ _ _ _ _ _) e (answer-applies fit), applies-answer fit)
+
+-- Where `derive_terms` answers 0, its set has a term exactly where its message can be derived.
+pub derived-exact : (n flags : ℕ) (ts : List ℕ) (count : ℕ) (ws out : List ℕ) → derivedOf n flags ts count ws out .0 ≡ 0
+    → ((j : ℕ) → getD ws j 0 < 2 ^ 64) → (i : ℕ) → (marked (derivedOf n flags ts count ws out .1) i ≡ true) ↔ ((i < count) × Derivable n flags ts count ws i)
+derived-exact n flags ts count ws out given fit i = lent.derived-exact n flags ts count ws out given fit i
 
 -- What is kept is true: a term that was found can be derived from the wire that it was found for, and one that was missed cannot.
 module _ {n flags : ℕ} {ts : List ℕ} {count : ℕ} {ks : List ℕ} (known : Kept n flags ts count ks) (k : ℕ) (h : k < count) where

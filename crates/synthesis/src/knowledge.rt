@@ -8,10 +8,11 @@ use marks::store;
 ghost use mathlib.Core.Path.{_≡_};
 ghost use Prim.Native.Nat.{_<_};
 ghost use lib.ListN.{length};
+ghost use Rattle.marks.specs.Marks.{Words};
 ghost use Rattle.marks.specs.Within.{Below};
 ghost use Rattle.terms.specs.Choice.{Decides};
 ghost use Rattle.terms.specs.Valid.{Valid};
-ghost use Rattle.synthesis.specs.Knowledge.{wireIn, noteOf, RestartedIs};
+ghost use Rattle.synthesis.specs.Knowledge.{wireIn, foundIn, noteOf, RestartedIs};
 
 // Words of the list. One of zeros knows nothing, and is right for an empty wire.
 pub const KNOWN_WORDS: usize = 24;
@@ -32,6 +33,14 @@ pub fn note(known: &mut [u64], t: usize, ok: bool) -> bool
         mark(known, MISSED + t);
     }
     ok
+}
+
+// What was found, as a set by value.
+pub fn found_in(known: &[u64]) -> [u64; 8]
+    requires { ⌜ length (now known) ≡ 24 ⌝ }
+    ensures { λ r. ⌜ (r ≡ foundIn (now (known .entry))) × Words 8 r ⌝ }
+{
+    load(&known[8..16])
 }
 
 // Whether it was found for this wire.
