@@ -1,5 +1,6 @@
 -- What is promised of the public call, `call`, and so of `pogandir_call`: its contract is an equation with `lentCall`, the answer and
--- every table afterwards. Reading order: Lent (one call), Lists (a list of them, each on the tables that the one before it left).
+-- every table afterwards. Reading order: Lent (one call), Lists (a list of them, each on the tables that the one before it left). And of
+-- `known`, and so of `pogandir_known`: an equation with `knownOf` (Known), the answer and every word of the set.
 -- Assumes nothing.
 use Prim.Native.Nat.{ℕ, _+_, _^_, _<_}
 use mathlib.Core.Path.{_≡_}
@@ -7,12 +8,15 @@ use mathlib.Core.Bool.{true}
 use mathlib.Core.List.{List, _∷_}
 use mathlib.Core.Logic.{_↔_}
 use mathlib.Core.Option.{some}
-use lib.ListN.{length}
+use lib.ListN.{length, getD}
+use Rattle.marks.specs.Marks.{marked}
 use Rattle.terms.specs.Message.{session, Message, key}
+use Rattle.deduction.specs.Known.{Derivable}
 use Rattle.exchange.specs.declared.call.Answer.the-variants.{Refused}
 use Rattle.exchange.specs.declared.call.Call.{Call}
 use Rattle.exchange.specs.declared.call.Call.the-variants.{Term, Step}
 use Rattle.exchange.specs.Calls.{accepts, addedBy, Sized, AllSized}
+use Rattle.traces.specs.Conditions.{Delivers}
 use Rattle.traces.specs.Engines.{Agrees}
 use Rattle.traces.specs.RuleSets.{reading}
 use Rattle.traces.specs.Terms.{messageFrom}
@@ -37,6 +41,8 @@ use Rattle.simulation.specs.Underivable.{Barred}
 use Rattle.simulation.specs.Unread.{Alike}
 use Rattle.simulation.specs.Values.{valuesOf}
 use Rattle.calls.specs.Kept as kept
+use Rattle.calls.specs.Known as known
+use Rattle.calls.specs.Known.{knownOf, knownIn}
 use Rattle.calls.specs.Lent.{lentCall}
 use Rattle.calls.specs.Lists.{lentAfter, lentHistory}
 use Rattle.calls.specs.Same.{lent-follows, lent-lawful, lent-agrees}
@@ -55,6 +61,11 @@ module _ (t u : Tables) (t-holds : Together t) (u-holds : Together u) (same : Al
 
   pub unread-tables : Alike (lentCall t c .tables) (lentCall u c .tables)
   unread-tables = kept.unread-tables t u t-holds u-holds same c
+
+-- Where `known` answers 0, its set has a term exactly where its message can be derived from the wire.
+pub known-exact : (h : Realm) (ts ws out : List ℕ) → knownOf h ts ws out .0 ≡ 0 → ((j : ℕ) → getD ws j 0 < 2 ^ 64) → (i : ℕ)
+    → (marked (knownOf h ts ws out .1) i ≡ true) ↔ ((i < h .terms) × Derivable (h .n) (h .flags) ts (h .terms) ws i)
+known-exact h ts ws out given fit i = known.known-exact h ts ws out given fit i
 
 -- ---- every list of calls from a new realm: what `open_realm` gave, and the caller's own tables, whatever stands in their places
 
@@ -118,3 +129,17 @@ module _ (g : Header) (ls-fits : g .ls < 2 ^ 32) (la-fits : g .la < 2 ^ 32) (h :
   -- and neither does a leak of a key that is on the wire.
   pub public-leak : (r a b m now : ℕ) → valuesOf (lentAfter t cs) .wire (key (session r)) → lentCall (lentAfter t cs) (Step 9 r a b m now) .tables ≡ lentAfter t cs
   public-leak r a b m now k = kept.leak-kept (lentAfter t cs) (lent-follows (header h) t new cs sized .together) r a b m now k
+
+  -- All that the intruder can derive is told at once: `known` answers 0, and its set has a term exactly where he can deliver it, in the
+  -- reading,
+  pub public-known : (out : List ℕ) → length out ≡ 8 → knownIn (lentAfter t cs) out .0 ≡ 0
+  public-known out eight = known.known-given (lentAfter t cs) (lent-follows (header h) t new cs sized .together) out eight
+
+  pub public-known-exact : (out : List ℕ) → length out ≡ 8 → (i : ℕ) → let ρ = reading HD (lentHistory t cs) in
+      (marked (knownIn (lentAfter t cs) out .1) i ≡ true) ↔ ((x : Message) × Delivers (header h) (ρ .terms) (ρ .log) i x)
+  public-known-exact out eight i = known.known-delivers (lent-follows (header h) t new cs sized) out eight i
+
+  -- and so exactly where step 10 of it is accepted.
+  pub public-known-query : (out : List ℕ) → length out ≡ 8 → (i : ℕ) → i < 2 ^ 16
+      → (marked (knownIn (lentAfter t cs) out .1) i ≡ true) ↔ (accepts (lentCall (lentAfter t cs) (Step 10 0 0 0 i 0) .answer) ≡ true)
+  public-known-query out eight i below = known.known-query (lent-follows (header h) t new cs sized) out eight i below
