@@ -1,7 +1,9 @@
-// A new realm, the public call, the listing of a walk file, and a walk written as a file, for programs in other languages. An exported
-// function takes numbers, slices and structs of numbers, so calls and answers are structs of numbers here.
+// A new realm, the public call, the terms that the intruder can derive, the listing of a walk file, and a walk written as a file, for
+// programs in other languages. An exported function takes numbers, slices and structs of numbers, so calls and answers are structs of
+// numbers here.
 use calls::Called;
 use calls::call;
+use calls::knowledge::known;
 use exchange::call::Answer;
 use exchange::call::Call;
 use exchange::call::Names;
@@ -18,6 +20,7 @@ use writer::walk::write_walk;
 ghost use mathlib.Core.Path.{_≡_};
 ghost use Rattle.realm.specs.Opening.{openingOf};
 ghost use Rattle.realm.specs.Tables.{tables};
+ghost use Rattle.calls.specs.Known.{knownOf};
 ghost use Rattle.calls.specs.Lent.{lentCall};
 ghost use Rattle.walkfile.specs.Listing.{listed};
 ghost use Rattle.writer.specs.Write.{writeOf};
@@ -165,6 +168,15 @@ pub extern "C" fn pogandir_call(
     ensures { λ r. ⌜ (r, tables (r .realm) (now (terms .exit)) (now (runs .exit)) (now (wire .exit)) (now (list .exit))) ≡ replied (lentCall (tables h (now (terms .entry)) (now (runs .entry)) (now (wire .entry)) (now (list .entry))) (callOf q)) ⌝ }
 {
     reply_of(call(h, terms, runs, wire, list, call_of(q)))
+}
+
+// The set of all terms that the intruder can derive, packed: term i is bit i % 64 of word i / 64. 0, and the set in the eight words of
+// `out`; or 10, and `out` as it was, if what is read does not hold together. Nothing is required of what is lent.
+#[no_mangle]
+pub extern "C" fn pogandir_known(h: Realm, terms: &[u64], wire: &[u64], out: &mut [u64]) -> u8
+    ensures { λ r. ⌜ (r, now (out .exit)) ≡ knownOf h (now (terms .entry)) (now (wire .entry)) (now (out .entry)) ⌝ }
+{
+    known(h, terms, wire, out)
 }
 
 // Whether the buffer has room for any listing, and how many of its bytes are the listing's, or else 0.
