@@ -303,7 +303,7 @@ impl Script {
     fn settle(&mut self) {
         let Some((record, number)) = self.listed.ended() else { return };
         for told in &mut self.told {
-            if told.record == record && !matches!(told.outcome, Outcome::Ended(_)) {
+            if told.record == record && told.outcome != Outcome::Ended(number) {
                 told.outcome = Outcome::Ended(number);
                 told.reason = Refusal::told(number);
             } else if told.record > record {
