@@ -100,13 +100,16 @@ pub struct Call {
     pub record: Record,
     /// Sweeps that a test by the definition takes; none where no term is tested.
     pub sweeps: usize,
+    /// All terms that can be derived are asked for, in place of the record.
+    pub whole: bool,
 }
 
 /// How many calls there are.
-pub const CALLS: usize = 5;
+pub const CALLS: usize = 6;
 
-/// The number of the purge.
+/// The number of the purge, and of the call that asks for the whole set.
 pub const PURGE: usize = 3;
+pub const WHOLE: usize = 4;
 
 /// A call on so many terms, 64 runs and 16 entries. In the first each term is on
 /// the wire, so that one look at each is all there is to do; the last is always on
@@ -117,10 +120,13 @@ pub fn make(number: usize, terms: usize) -> Call {
         1 => chained("step 10, a chain of keys in the best order", terms, Order::Best),
         2 => chained("step 10, a chain of keys in the worst order", terms, Order::Worst),
         PURGE => ("step 8, every entry stays", all_known(terms), purge(2)),
+        WHOLE => {
+            chained("all that can be derived, a chain in the worst order", terms, Order::Worst)
+        }
         _ => delivery(),
     };
     let sweeps = if number == PURGE { 0 } else { sweeps(&both.realm) };
-    Call { name, both, record, sweeps }
+    Call { name, both, record, sweeps, whole: number == WHOLE }
 }
 
 fn chained(name: &'static str, terms: usize, order: Order) -> (&'static str, Both, Record) {
@@ -171,23 +177,33 @@ impl Call {
     pub fn take(&mut self, which: Which) {
         let check = self.check();
         match which {
-            Which::Engine => call_of_the_engine(&mut self.both.tables, &self.record),
-            Which::Check => call_of_the_engine(&mut self.both.tables, &check),
-            Which::Reference => call_of_the_reference(&mut self.both.realm, &self.record),
+            Which::Engine => call_of_the_engine(&mut self.both.tables, &self.record, self.whole),
+            Which::Check => call_of_the_engine(&mut self.both.tables, &check, false),
+            Which::Reference => {
+                call_of_the_reference(&mut self.both.realm, &self.record, self.whole)
+            }
         }
     }
 }
 
 #[no_mangle]
 #[inline(never)]
-fn call_of_the_engine(tables: &mut Tables, record: &Record) {
-    black_box(call(tables, black_box(record)));
+fn call_of_the_engine(tables: &mut Tables, record: &Record, whole: bool) {
+    if whole {
+        let _ = black_box(black_box(&*tables).known());
+    } else {
+        black_box(call(tables, black_box(record)));
+    }
 }
 
 #[no_mangle]
 #[inline(never)]
-fn call_of_the_reference(realm: &mut Realm, record: &Record) {
-    let _ = black_box(realm.apply(black_box(record)));
+fn call_of_the_reference(realm: &mut Realm, record: &Record, whole: bool) {
+    if whole {
+        black_box(black_box(&*realm).derivable());
+    } else {
+        let _ = black_box(realm.apply(black_box(record)));
+    }
 }
 
 pub fn query(message: u16) -> Record {

@@ -1,8 +1,8 @@
 //! The tables of the public calls, and what the calls do to them.
 
-use bench::calls::{chain, make, query, sweeps, Order, CALLS, EACH, LINKS, PURGE};
+use bench::calls::{chain, make, query, sweeps, Order, CALLS, EACH, LINKS, PURGE, WHOLE};
 use bench::exchange::STEP;
-use lent::Answer;
+use lent::{is_marked, Answer};
 use reference::file::{Record, StepRecord};
 
 /// Ok, with no run and no term added.
@@ -22,6 +22,20 @@ fn calls_leave_full_tables_as_they_are() {
             EACH.into_iter().for_each(|which| call.take(which));
             assert_eq!(call.both.tables, before, "{}", call.name);
         }
+    }
+}
+
+/// The whole set is the reference's, and the last key's secret is in it.
+#[test]
+fn the_whole_set_is_asked_for() {
+    let call = make(WHOLE, 512);
+    assert!(call.whole);
+    let known = call.both.tables.known().unwrap();
+    let derivable = call.both.realm.derivable();
+    let Record::Step(StepRecord { message: nonce, .. }) = call.record else { panic!() };
+    assert!(is_marked(&known, nonce));
+    for (number, message) in (0..).zip(call.both.realm.terms.present()) {
+        assert_eq!(is_marked(&known, number), derivable.contains(message), "term {number}");
     }
 }
 
