@@ -12,8 +12,8 @@ use engine::{Tables, Term};
 use crate::vocabulary::{ENCRYPTED, LONG_TERM_KEY, NONCE, PAIR, PRINCIPAL, SESSION_KEY, TIME};
 
 /// Layers that are shown, and parts.
-const DEPTH: usize = 6;
-const PARTS: usize = 48;
+pub const DEPTH: usize = 6;
+pub const PARTS: usize = 48;
 
 /// What a planner's name stands for.
 #[derive(Clone, Copy, Debug, PartialEq, Eq)]
@@ -65,18 +65,29 @@ pub enum Piece {
 
 /// A term in notation, in pieces.
 pub fn pieces(tables: &Tables, names: &Names, term: u16) -> Vec<Piece> {
-    let mut writer = Writer { tables, names, left: PARTS, done: Vec::new() };
+    pieces_up_to(PARTS, tables, names, term)
+}
+
+/// The same of at most so many parts, where there is less room.
+pub fn pieces_up_to(parts: usize, tables: &Tables, names: &Names, term: u16) -> Vec<Piece> {
+    let mut writer = Writer { tables, names, left: parts, done: Vec::new() };
     writer.term(term, DEPTH);
     writer.done
 }
 
-/// A term in notation; a cut is shown as … and the term's number.
+impl Piece {
+    /// A cut is shown as … and the term's number.
+    pub fn text(&self) -> String {
+        match self {
+            Piece::Text(text) => text.clone(),
+            Piece::Cut(number) => format!("…{number}"),
+        }
+    }
+}
+
+/// A term in notation, as one text.
 pub fn notation(tables: &Tables, names: &Names, term: u16) -> String {
-    let shown = |piece| match piece {
-        Piece::Text(text) => text,
-        Piece::Cut(number) => format!("…{number}"),
-    };
-    pieces(tables, names, term).into_iter().map(shown).collect()
+    pieces(tables, names, term).iter().map(Piece::text).collect()
 }
 
 struct Writer<'a> {
