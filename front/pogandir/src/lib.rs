@@ -16,6 +16,7 @@ pub mod reason;
 pub mod record;
 pub mod script;
 pub mod sentence;
+pub mod sheet;
 pub mod source;
 pub mod tokens;
 pub mod vocabulary;

@@ -1,0 +1,21 @@
+//! A walk as a sheet: a row a record, with what it did to the tables. The page, the
+//! CSV file and the JSON text are made of one list of rows, so they cannot differ.
+
+mod cells;
+mod csv;
+mod file;
+mod listener;
+pub mod rows;
+mod words;
+
+use crate::listed::Listed;
+
+/// The rows as a file for spreadsheets.
+pub fn csv(listed: &Listed) -> String {
+    csv::file(&rows::rows(listed))
+}
+
+/// The rows as JSON.
+pub fn json(listed: &Listed) -> String {
+    cells::json(&listed.name, &rows::rows(listed))
+}
