@@ -4,11 +4,20 @@
 mod cells;
 mod csv;
 mod file;
+mod html;
 mod listener;
 pub mod rows;
+mod summary;
+mod table;
+mod terms;
 mod words;
 
 use crate::listed::Listed;
+
+/// One page that needs nothing else: no network, no other file.
+pub fn html(listed: &Listed) -> String {
+    html::page(listed, &rows::rows(listed))
+}
 
 /// The rows as a file for spreadsheets.
 pub fn csv(listed: &Listed) -> String {
