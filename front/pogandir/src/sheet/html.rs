@@ -1,7 +1,7 @@
 //! The page as a whole: what is above the table, the table, what is below it.
 
 use super::rows::{Noted, Row};
-use super::{summary, table, terms};
+use super::{chart, summary, table, terms};
 use crate::listed::Listed;
 use crate::notation::Piece;
 
@@ -64,6 +64,7 @@ pub fn page(listed: &Listed, rows: &[Row]) -> String {
     html.push_str(&summary::counts(listed, rows));
     html.push_str(&walk.map(summary::realm).unwrap_or_default());
     html.push_str("</header>\n<main>\n");
+    html.push_str(&walk.map(|walk| chart::section(walk, rows)).unwrap_or_default());
     html.push_str(&format!("<p class=\"legend\">{LEGEND}</p>\n"));
     html.push_str(&table::table(rows));
     html.push_str(&walk.map(terms::section).unwrap_or_default());

@@ -2,17 +2,22 @@
 //! CSV file and the JSON text are made of one list of rows, so they cannot differ.
 
 mod cells;
+mod chart;
 mod csv;
+mod events;
 mod file;
 mod html;
 mod listener;
 pub mod rows;
 mod summary;
+mod svg;
 mod table;
 mod terms;
 mod words;
 
 use crate::listed::Listed;
+
+pub use chart::FOLDED_FROM;
 
 /// One page that needs nothing else: no network, no other file.
 pub fn html(listed: &Listed) -> String {
