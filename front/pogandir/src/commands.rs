@@ -10,6 +10,7 @@ use crate::listed::Listed;
 use crate::options::{Command, Options};
 use crate::plain;
 use crate::script::{self, Script};
+use crate::sheet;
 use crate::source::{is_utf16, load, Content, Source};
 
 /// Exit statuses. Of many files the highest counts.
@@ -208,8 +209,12 @@ fn checked(options: &Options, given: &Given, faults: &[Fault]) -> (u8, Vec<u8>) 
 }
 
 fn sheet(options: &Options, listed: &Listed) -> Vec<u8> {
-    let _ = (options, listed);
-    Vec::new()
+    let made = match (options.json, options.csv) {
+        (true, _) => sheet::json(listed),
+        (false, true) => sheet::csv(listed),
+        (false, false) => sheet::html(listed),
+    };
+    made.into_bytes()
 }
 
 /// A walk file in words; a text as it is.
