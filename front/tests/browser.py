@@ -22,8 +22,8 @@ EXAMPLES = FRONT.parent / "examples"
 PROBE = (FRONT / "tests" / "probe.js").read_text()
 WIDTHS = [1200, 800]
 PAIR = 5
-ANSWER, TAKE_DELIVERY, TAKE_CONFIRMATION, CLOCK, LEAK = 3, 5, 6, 7, 9
-UNUSED_FIELD, OUT_OF_RANGE = 5, 6
+ISSUE, ACCEPT, FINISH, TICK, LEAK = 3, 5, 6, 7, 9
+REFUSED_UNUSED, REFUSED_RANGE = 5, 6
 
 
 def header():
@@ -91,7 +91,7 @@ def sources(row, senders, terms):
     if message in senders:
         return [senders[message]]
     kind, left, right = terms[3 * message:3 * message + 3]
-    if kind == PAIR and int(row["step"]) == TAKE_DELIVERY:
+    if kind == PAIR and int(row["step"]) == ACCEPT:
         halves = [senders.get(half, "intruder") for half in (left, right)]
         return halves if halves[0] != halves[1] else halves[:1]
     return ["intruder"]
@@ -102,9 +102,9 @@ def expected_arrows(row, senders, terms):
     at, refused = int(row["step"]), number(row["answer"])
     if at == LEAK and refused is None:
         return [[f"run-{row['answer'].split()[1]}", "intruder"]]
-    if not ANSWER <= at <= TAKE_CONFIRMATION or refused == OUT_OF_RANGE:
+    if not ISSUE <= at <= FINISH or refused == REFUSED_RANGE:
         return []
-    if refused == UNUSED_FIELD or row["takes"] is None:
+    if refused == REFUSED_UNUSED or row["takes"] is None:
         return None
     to = None if refused else f"run-{row['answer'].split()[1]}"
     return [[source, to] for source in sources(row, senders, terms)]
@@ -127,7 +127,7 @@ def check_chart(found):
         told = refused is None or f"refused {refused}" in event["words"]
         yield f"record {row['record']} tells its refusal", told
         yield f"crosses of record {row['record']}", (event["crosses"] > 0) == (refused is not None)
-        is_clock = int(row["step"]) == CLOCK and refused is None
+        is_clock = int(row["step"]) == TICK and refused is None
         yield f"clock of record {row['record']}", event["clock"] == is_clock
         told = ("not covered" in event["words"]) == row["warned"]
         yield f"record {row['record']} tells what is not covered", told

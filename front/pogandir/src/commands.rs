@@ -152,8 +152,11 @@ fn make(options: &Options, source: Source) -> Made {
         Content::Walk(bytes) => Given::Walk(Listed::of_bytes(&name, bytes, options.names.clone())),
         Content::Text(text) => Given::Text(script::read(&name, &text)),
     };
-    let faults = given.faults().to_vec();
+    let mut faults = given.faults().to_vec();
     if faults.iter().any(Fault::is_error) {
+        if name.ends_with(".walk") {
+            faults.push(read_as_text());
+        }
         return Made {
             status: BAD_INPUT,
             output: json_of(options, &name, &faults, vec![]),
@@ -245,6 +248,13 @@ fn no_text(name: &str, bytes: &[u8]) -> Made {
         _ => "this is no text: it has bytes that are no characters".to_string(),
     };
     Made { status: BAD_INPUT, output: Vec::new(), faults: vec![fault_at_start(message)] }
+}
+
+/// For a walk file that is characters by chance.
+fn read_as_text() -> Fault {
+    let message =
+        "it has no bytes but characters, so it was read as a text; --walk reads it as a walk file";
+    Fault { severity: Severity::Warning, ..fault_at_start(message.to_string()) }
 }
 
 fn fault_at_start(message: String) -> Fault {

@@ -4,7 +4,7 @@
 use crate::notation::Names;
 use crate::reason;
 use crate::record::{split, Record};
-use crate::vocabulary::{HEADER_VALUE, NO_HEADER};
+use crate::vocabulary::{REFUSED_FILE, REFUSED_HEADER};
 use crate::walk::Walk;
 
 #[derive(Clone, Debug)]
@@ -45,7 +45,7 @@ impl Listed {
     /// of this program.
     fn compare(&self) {
         let Some(walk) = &self.walk else {
-            let refused = matches!(self.ended(), Some((0, NO_HEADER | HEADER_VALUE)));
+            let refused = matches!(self.ended(), Some((0, REFUSED_FILE | REFUSED_HEADER)));
             assert!(refused, "only a refused header has no walk");
             return;
         };

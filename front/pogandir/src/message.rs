@@ -6,7 +6,7 @@ use std::collections::BTreeSet;
 
 use engine::{Run, Tables, Term};
 
-use crate::vocabulary::{ANSWER, ASK, LEAK, TAKE_DELIVERY, TAKE_REPLY};
+use crate::vocabulary::{ACCEPT, AUTHENTICATE, INITIATE, ISSUE, LEAK};
 use crate::vocabulary::{ENCRYPTED, LONG_TERM_KEY, NONCE, PAIR, PRINCIPAL, SESSION_KEY, TIME};
 
 #[derive(Clone, Debug, PartialEq, Eq, PartialOrd, Ord)]
@@ -41,13 +41,13 @@ pub fn sent_by(step: u8, number: u8, run: &Run, nonce: u16) -> Vec<Message> {
     let Run { a, b, k, ts, ta, .. } = *run;
     let key = || SessionKey(k.into());
     match step {
-        ASK => vec![list(vec![Principal(a), Principal(b), Nonce(number.into())])],
-        ANSWER => vec![
+        INITIATE => vec![list(vec![Principal(a), Principal(b), Nonce(number.into())])],
+        ISSUE => vec![
             encrypted(vec![key(), Principal(b), Time(ts), Nonce(nonce)], LongTermKey(a)),
             encrypted(vec![key(), Principal(a), Time(ts)], LongTermKey(b)),
         ],
-        TAKE_REPLY => vec![encrypted(vec![Principal(a), Time(ta)], key())],
-        TAKE_DELIVERY => vec![encrypted(vec![Time(ta)], key())],
+        AUTHENTICATE => vec![encrypted(vec![Principal(a), Time(ta)], key())],
+        ACCEPT => vec![encrypted(vec![Time(ta)], key())],
         LEAK => vec![key()],
         _ => vec![],
     }

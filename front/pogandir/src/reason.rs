@@ -34,8 +34,8 @@ const KEY_IN_DELIVERY: &str = "lll";
 /// Ts of the message of step 4 or 5, or the run's own for step 6.
 fn ts(tables: &Tables, step: u8, run: u8, m: u16) -> Option<u32> {
     match step {
-        TAKE_REPLY => number(tables, m, TS_IN_REPLY),
-        TAKE_DELIVERY => number(tables, m, TS_IN_DELIVERY),
+        AUTHENTICATE => number(tables, m, TS_IN_REPLY),
+        ACCEPT => number(tables, m, TS_IN_DELIVERY),
         _ => tables.run(run).map(|run| run.ts),
     }
 }
@@ -96,18 +96,18 @@ fn term_refused(walk: &Walk, before: &Tables, term: (u8, u16, u16), refusal: u8)
     let absent = |number: u16| usize::from(number) >= before.realm.terms;
     let terms = |number: u16| not_there("term", number.into(), before.realm.terms);
     Some(match (refusal, kind) {
-        (UNKNOWN_NUMBER, _) => format!("there is no kind {kind}: kinds are 0 to {ENCRYPTED}"),
-        (UNUSED_FIELD, _) => {
+        (REFUSED_KIND, _) => format!("there is no kind {kind}: kinds are 0 to {ENCRYPTED}"),
+        (REFUSED_UNUSED, _) => {
             format!("a {} does not use R, which is {r}", Kind::of(kind.into())?.name)
         }
-        (OUT_OF_RANGE, PRINCIPAL | LONG_TERM_KEY) => no_principal(walk, l.into()),
-        (OUT_OF_RANGE, NONCE | SESSION_KEY) => {
+        (REFUSED_RANGE, PRINCIPAL | LONG_TERM_KEY) => no_principal(walk, l.into()),
+        (REFUSED_RANGE, NONCE | SESSION_KEY) => {
             format!("{} {l} is above {MOST_NONCE_OR_KEY}", Kind::of(kind.into())?.name)
         }
-        (OUT_OF_RANGE, _) if absent(l) => terms(l),
-        (OUT_OF_RANGE, _) if absent(r) => terms(r),
-        (OUT_OF_RANGE, _) => format!("{} is no key", notation(before, &walk.names, r)),
-        (TERMS_FULL, _) => full(before, 1),
+        (REFUSED_RANGE, _) if absent(l) => terms(l),
+        (REFUSED_RANGE, _) if absent(r) => terms(r),
+        (REFUSED_RANGE, _) => format!("{} is no key", notation(before, &walk.names, r)),
+        (REFUSED_TERMS_FULL, _) => full(before, 1),
         _ => return None,
     })
 }
@@ -127,29 +127,29 @@ fn step_refused(walk: &Walk, before: &Tables, call: Call, refusal: u8) -> Option
     let clock = realm.clock;
     let (ls, la) = (u64::from(realm.ticket_life), u64::from(realm.authenticator_life));
     Some(match refusal {
-        UNKNOWN_NUMBER => format!("there is no step {step}: steps are 1 to {}", STEPS.len()),
-        UNUSED_FIELD => unused(call)?,
-        OUT_OF_RANGE => out_of_range(walk, before, call)?,
-        WRONG_STAGE => wrong_stage(walk, before, step, run)?,
-        CLOCK_BACK => format!("the clock is {clock}, and {t} is before it"),
-        RUNS_FULL => format!("runs 0 to {} are there", realm.runs - 1),
-        WRONG_FORM => wrong_form(walk, before, step, run)?,
-        UNDERIVABLE => format!("he lacks {}", lacks(walk, before, m)),
-        TICKET_EXPIRED => {
+        REFUSED_KIND => format!("there is no step {step}: steps are 1 to {}", STEPS.len()),
+        REFUSED_UNUSED => unused(call)?,
+        REFUSED_RANGE => out_of_range(walk, before, call)?,
+        REFUSED_STAGE => wrong_stage(walk, before, step, run)?,
+        REFUSED_CLOCK => format!("the clock is {clock}, and {t} is before it"),
+        REFUSED_RUNS_FULL => format!("runs 0 to {} are there", realm.runs - 1),
+        REFUSED_FORM => wrong_form(walk, before, step, run)?,
+        REFUSED_UNDERIVABLE => format!("he lacks {}", lacks(walk, before, m)),
+        REFUSED_TICKET => {
             let ts = u64::from(ts(before, step, run, m)?);
             format!("Ts {ts} + Ls {ls} = {}, and the clock is {clock}", ts + ls)
         }
-        TIME_PAST => {
+        REFUSED_AUTHENTICATOR => {
             let ta = u64::from(number(before, m, TA_IN_DELIVERY)?);
             format!("Ta {ta} + La {la} = {}, and the clock is {clock}", ta + la)
         }
-        TIME_AHEAD => {
+        REFUSED_AHEAD => {
             let ta = number(before, m, TA_IN_DELIVERY)?;
             format!("Ta is {ta}, and clock {clock} + La {la} = {}", u64::from(clock) + la)
         }
-        REPLAY => replayed(walk, before, run, m)?,
-        CACHE_FULL => cache_full(walk, before),
-        TERMS_FULL => full(before, terms_needed(before, call)?),
+        REFUSED_REPLAY => replayed(walk, before, run, m)?,
+        REFUSED_CACHE_FULL => cache_full(walk, before),
+        REFUSED_TERMS_FULL => full(before, terms_needed(before, call)?),
         _ => return None,
     })
 }
@@ -187,9 +187,9 @@ fn out_of_range(walk: &Walk, before: &Tables, call: Call) -> Option<String> {
 
 fn wrong_stage(walk: &Walk, before: &Tables, step: u8, run: u8) -> Option<String> {
     let needed = match step {
-        TAKE_REPLY => "an initiator that was just opened",
-        TAKE_DELIVERY => "a responder that was just opened",
-        TAKE_CONFIRMATION => "an initiator that waits for the confirmation",
+        AUTHENTICATE => "an initiator that was just opened",
+        ACCEPT => "a responder that was just opened",
+        FINISH => "an initiator that waits for the confirmation",
         _ => "a server run",
     };
     let Run { role: its_role, stage: its_stage, .. } = before.run(run)?;
@@ -200,14 +200,14 @@ fn wrong_stage(walk: &Walk, before: &Tables, step: u8, run: u8) -> Option<String
 fn wrong_form(walk: &Walk, before: &Tables, step: u8, run: u8) -> Option<String> {
     let name = |principal| walk.names.principal(principal);
     let form = match (step, before.run(run)) {
-        (ANSWER, _) => "[a, b, N], with a and b two principals and not the server".to_string(),
-        (TAKE_REPLY, Some(Run { a, b, .. })) => {
+        (ISSUE, _) => "[a, b, N], with a and b two principals and not the server".to_string(),
+        (AUTHENTICATE, Some(Run { a, b, .. })) => {
             format!("{{K, {}, Ts, N{run}}}K({})", name(b), name(a))
         }
-        (TAKE_DELIVERY, Some(Run { a, b, .. })) => {
+        (ACCEPT, Some(Run { a, b, .. })) => {
             format!("[{{K, {0}, Ts}}K({1}), {{{0}, Ta}}K]", name(a), name(b))
         }
-        (TAKE_CONFIRMATION, Some(Run { k, ta, .. })) => format!("{{t{ta}}}k{k}"),
+        (FINISH, Some(Run { k, ta, .. })) => format!("{{t{ta}}}k{k}"),
         _ => return None,
     };
     Some(format!("the step takes {form}"))
@@ -274,13 +274,13 @@ fn terms_needed(before: &Tables, call: Call) -> Option<usize> {
     let clock = before.realm.clock;
     let new = |role, a, b, k| Run { role, stage: Stage::Opened, a, b, k, ts: clock, ta: 0 };
     let (number, row, nonce) = match step {
-        ASK => (opened, new(Role::Initiator, a, b, 0), 0),
-        ANSWER => {
+        INITIATE => (opened, new(Role::Initiator, a, b, 0), 0),
+        ISSUE => {
             let of = |path| number(before, m, path);
             let row = new(Role::Server, of("l")? as u8, of("rl")? as u8, opened);
             (opened, row, of("rr")? as u16)
         }
-        TAKE_REPLY => {
+        AUTHENTICATE => {
             let key = number(before, m, "ll")? as u8;
             (run, Run { k: key, ta: clock, ..before.run(run)? }, 0)
         }
@@ -297,10 +297,10 @@ fn terms_needed(before: &Tables, call: Call) -> Option<usize> {
 pub fn accepted(walk: &Walk, before: &Tables, call: Call) -> String {
     let after = &walk.tables;
     match call {
-        Call::Step { step: CLOCK, t, .. } if t == before.realm.clock => {
+        Call::Step { step: TICK, t, .. } if t == before.realm.clock => {
             "the clock stays".to_string()
         }
-        Call::Step { step: FORGET, .. } => match before.realm.entries - after.realm.entries {
+        Call::Step { step: PURGE, .. } => match before.realm.entries - after.realm.entries {
             0 => "nothing to forget".to_string(),
             1 => "1 entry forgotten".to_string(),
             count => format!("{count} entries forgotten"),
@@ -312,7 +312,7 @@ pub fn accepted(walk: &Walk, before: &Tables, call: Call) -> String {
                 None => format!("k{key} is on the wire"),
             }
         }
-        Call::Step { step: DERIVE, .. } => "he can".to_string(),
+        Call::Step { step: QUERY, .. } => "he can".to_string(),
         _ => String::new(),
     }
 }

@@ -130,10 +130,10 @@ impl Reader {
         self.read_record(line);
         if self.bytes.len() > LONGEST_FILE && !self.too_long {
             self.too_long = true;
-            let words = Refusal::told(NO_HEADER);
+            let words = Refusal::told(REFUSED_FILE);
             self.warn(
                 1,
-                format!("here the walk is too long and gets refusal {NO_HEADER}, {words}"),
+                format!("here the walk is too long and gets refusal {REFUSED_FILE}, {words}"),
             );
         }
     }
@@ -234,8 +234,11 @@ impl Reader {
                 (Outcome::Answered(answer), taken.reason.clone())
             }
             (State::Open(_), None) => {
-                self.state = State::Ended(BAD_MARK);
-                (Outcome::Ended(BAD_MARK), "a walk has one header, its first record".to_string())
+                self.state = State::Ended(REFUSED_RECORD);
+                (
+                    Outcome::Ended(REFUSED_RECORD),
+                    "a walk has one header, its first record".to_string(),
+                )
             }
             (State::Ended(_) | State::Raw, _) => (Outcome::Unread, String::new()),
         };
@@ -244,8 +247,8 @@ impl Reader {
 
     fn put_first(&mut self, record: &Record) -> (Outcome, String) {
         let Some(header) = record.header() else {
-            self.state = State::Ended(NO_HEADER);
-            return (Outcome::Ended(NO_HEADER), "a header is a walk's first record".to_string());
+            self.state = State::Ended(REFUSED_FILE);
+            return (Outcome::Ended(REFUSED_FILE), "a header is a walk's first record".to_string());
         };
         match Walk::open(header, self.names()) {
             Ok(walk) => {
@@ -273,7 +276,7 @@ impl Reader {
         let Done { record, outcome, reason } = done;
         let refusal = outcome.refusal();
         let is_meant = matches!(expected, Some(Expected::Refused(_) | Expected::Any));
-        let warned = [NO_HEADER, HEADER_VALUE, BAD_MARK, UNKNOWN_NUMBER, UNUSED_FIELD];
+        let warned = [REFUSED_FILE, REFUSED_HEADER, REFUSED_RECORD, REFUSED_KIND, REFUSED_UNUSED];
         if let Some(number) = refusal.filter(|number| warned.contains(number) && !is_meant) {
             let column = body.first().map_or(1, |token| token.column);
             let words = Refusal::told(number);

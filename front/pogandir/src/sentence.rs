@@ -269,7 +269,7 @@ fn clock(reader: &mut Reader, mut cursor: Cursor) -> Result<Done, Stop> {
     reader.walk(cursor.column())?;
     let t = cursor.needs_number("the clock", u32::MAX)?;
     cursor.needs_end()?;
-    Ok(reader.call(Call::Step { step: CLOCK, run: 0, a: 0, b: 0, m: 0, t }))
+    Ok(reader.call(Call::Step { step: TICK, run: 0, a: 0, b: 0, m: 0, t }))
 }
 
 fn leak(reader: &mut Reader, mut cursor: Cursor) -> Result<Done, Stop> {
@@ -294,7 +294,7 @@ fn derives(reader: &mut Reader, mut cursor: Cursor) -> Result<Done, Stop> {
     let message = message(reader, &mut cursor)?;
     cursor.needs_end()?;
     let m = reader.add(&message)?;
-    Ok(reader.call(step(DERIVE, 0, m)))
+    Ok(reader.call(step(QUERY, 0, m)))
 }
 
 /// Who does what: P asks Q, Q waits for P, server answers, P forgets, RUN takes ..
@@ -316,7 +316,7 @@ fn deed(reader: &mut Reader, mut cursor: Cursor) -> Result<Done, Stop> {
         "forgets" => {
             let b = principal(reader, &mut subject.clone())?;
             cursor.needs_end()?;
-            Ok(reader.call(Call::Step { step: FORGET, run: 0, a: 0, b, m: 0, t: 0 }))
+            Ok(reader.call(Call::Step { step: PURGE, run: 0, a: 0, b, m: 0, t: 0 }))
         }
         _ => takes(reader, subject, cursor),
     }
@@ -332,7 +332,7 @@ fn opens(
     cursor.takes("for");
     let whom = principal(reader, &mut cursor)?;
     cursor.needs_end()?;
-    let (number, a, b) = if verb == "asks" { (ASK, who, whom) } else { (WAIT, whom, who) };
+    let (number, a, b) = if verb == "asks" { (INITIATE, who, whom) } else { (RESPOND, whom, who) };
     Ok(reader.call(Call::Step { step: number, run: 0, a, b, m: 0, t: 0 }))
 }
 
@@ -356,7 +356,7 @@ fn answers(reader: &mut Reader, subject: Cursor, mut cursor: Cursor) -> Result<D
     };
     cursor.needs_end()?;
     let m = reader.add(&message)?;
-    Ok(reader.call(step(ANSWER, 0, m)))
+    Ok(reader.call(step(ISSUE, 0, m)))
 }
 
 fn request(walk: &Walk, run: u8) -> Option<u16> {
@@ -375,9 +375,9 @@ fn takes(reader: &mut Reader, mut subject: Cursor, mut cursor: Cursor) -> Result
     }
     let row = reader.walk(cursor.column())?.tables.run(run).expect("the run is there");
     let number = named.map(|step| step.number).unwrap_or(match (row.role, row.stage) {
-        (Role::Responder, _) => TAKE_DELIVERY,
-        (Role::Initiator, Stage::Opened) => TAKE_REPLY,
-        (Role::Initiator, _) => TAKE_CONFIRMATION,
+        (Role::Responder, _) => ACCEPT,
+        (Role::Initiator, Stage::Opened) => AUTHENTICATE,
+        (Role::Initiator, _) => FINISH,
         (Role::Server, _) => {
             return Ok(wrong(subject.column(), "a server run takes nothing: it is done")?);
         }

@@ -158,16 +158,16 @@ pub struct Step {
     pub sends: &'static [&'static str],
 }
 
-pub const ASK: u8 = 1;
-pub const WAIT: u8 = 2;
-pub const ANSWER: u8 = 3;
-pub const TAKE_REPLY: u8 = 4;
-pub const TAKE_DELIVERY: u8 = 5;
-pub const TAKE_CONFIRMATION: u8 = 6;
-pub const CLOCK: u8 = 7;
-pub const FORGET: u8 = 8;
+pub const INITIATE: u8 = 1;
+pub const RESPOND: u8 = 2;
+pub const ISSUE: u8 = 3;
+pub const AUTHENTICATE: u8 = 4;
+pub const ACCEPT: u8 = 5;
+pub const FINISH: u8 = 6;
+pub const TICK: u8 = 7;
+pub const PURGE: u8 = 8;
 pub const LEAK: u8 = 9;
-pub const DERIVE: u8 = 10;
+pub const QUERY: u8 = 10;
 
 const fn step(
     number: u8,
@@ -180,34 +180,28 @@ const fn step(
 }
 
 pub const STEPS: [Step; 10] = [
-    step(ASK, "an initiator asks the server", &["a", "b"], None, &["request"]),
-    step(WAIT, "a responder waits", &["a", "b"], None, &[]),
-    step(ANSWER, "the server answers", &["m"], Some("request"), &["reply", "ticket"]),
+    step(INITIATE, "an initiator asks the server", &["a", "b"], None, &["request"]),
+    step(RESPOND, "a responder waits", &["a", "b"], None, &[]),
+    step(ISSUE, "the server answers", &["m"], Some("request"), &["reply", "ticket"]),
     step(
-        TAKE_REPLY,
+        AUTHENTICATE,
         "an initiator takes the reply",
         &["run", "m"],
         Some("reply"),
         &["authenticator"],
     ),
     step(
-        TAKE_DELIVERY,
+        ACCEPT,
         "a responder takes ticket and authenticator",
         &["run", "m"],
         Some("delivery"),
         &["confirmation"],
     ),
-    step(
-        TAKE_CONFIRMATION,
-        "an initiator takes the confirmation",
-        &["run", "m"],
-        Some("confirmation"),
-        &[],
-    ),
-    step(CLOCK, "the clock is set", &["t"], None, &[]),
-    step(FORGET, "a responder forgets", &["b"], None, &[]),
+    step(FINISH, "an initiator takes the confirmation", &["run", "m"], Some("confirmation"), &[]),
+    step(TICK, "the clock is set", &["t"], None, &[]),
+    step(PURGE, "a responder forgets", &["b"], None, &[]),
     step(LEAK, "a server's key leaks", &["run"], None, &["key"]),
-    step(DERIVE, "can the intruder derive this", &["m"], Some("message"), &[]),
+    step(QUERY, "can the intruder derive this", &["m"], Some("message"), &[]),
 ];
 
 impl Step {
@@ -237,47 +231,47 @@ const fn in_kerberos(number: u8, words: &'static str, name: &'static str) -> Ref
     Refusal { number, words, kerberos: Some(name) }
 }
 
-pub const NO_HEADER: u8 = 1;
-pub const HEADER_VALUE: u8 = 2;
-pub const BAD_MARK: u8 = 3;
-pub const UNKNOWN_NUMBER: u8 = 4;
-pub const UNUSED_FIELD: u8 = 5;
-pub const OUT_OF_RANGE: u8 = 6;
-pub const TABLES: u8 = 10;
-pub const WRONG_STAGE: u8 = 11;
-pub const CLOCK_BACK: u8 = 12;
-pub const RUNS_FULL: u8 = 13;
-pub const WRONG_FORM: u8 = 14;
-pub const UNDERIVABLE: u8 = 15;
-pub const TICKET_EXPIRED: u8 = 16;
-pub const TIME_PAST: u8 = 17;
-pub const TIME_AHEAD: u8 = 22;
-pub const REPLAY: u8 = 18;
-pub const CACHE_FULL: u8 = 19;
-pub const TERMS_FULL: u8 = 20;
-pub const NO_ROOM: u8 = 21;
+pub const REFUSED_FILE: u8 = 1;
+pub const REFUSED_HEADER: u8 = 2;
+pub const REFUSED_RECORD: u8 = 3;
+pub const REFUSED_KIND: u8 = 4;
+pub const REFUSED_UNUSED: u8 = 5;
+pub const REFUSED_RANGE: u8 = 6;
+pub const REFUSED_TABLES: u8 = 10;
+pub const REFUSED_STAGE: u8 = 11;
+pub const REFUSED_CLOCK: u8 = 12;
+pub const REFUSED_RUNS_FULL: u8 = 13;
+pub const REFUSED_FORM: u8 = 14;
+pub const REFUSED_UNDERIVABLE: u8 = 15;
+pub const REFUSED_TICKET: u8 = 16;
+pub const REFUSED_AUTHENTICATOR: u8 = 17;
+pub const REFUSED_AHEAD: u8 = 22;
+pub const REFUSED_REPLAY: u8 = 18;
+pub const REFUSED_CACHE_FULL: u8 = 19;
+pub const REFUSED_TERMS_FULL: u8 = 20;
+pub const REFUSED_ROOM: u8 = 21;
 
 /// In the order in which they are looked at, but for 10, which comes before all.
 pub const REFUSALS: [Refusal; 19] = [
-    refusal(TABLES, "the tables do not hold together"),
-    refusal(NO_HEADER, "the file is over 65,536 bytes, or does not begin with a whole header"),
-    refusal(HEADER_VALUE, "a header value is not allowed"),
-    refusal(BAD_MARK, "another mark, or a record cut short; reading ends here"),
-    refusal(UNKNOWN_NUMBER, "no such kind or step"),
-    refusal(UNUSED_FIELD, "a field that is not used is not 0"),
-    refusal(OUT_OF_RANGE, "a field is out of range, or what it names is not there"),
-    refusal(WRONG_STAGE, "the run's role or stage does not fit"),
-    refusal(CLOCK_BACK, "the clock would go back"),
-    refusal(RUNS_FULL, "64 runs exist"),
-    refusal(WRONG_FORM, "the message has not the step's form"),
-    refusal(UNDERIVABLE, "the intruder cannot derive the message"),
-    in_kerberos(TICKET_EXPIRED, "the ticket's life is over", "KRB_AP_ERR_TKT_EXPIRED"),
-    in_kerberos(TIME_PAST, "the authenticator's life is over", "KRB_AP_ERR_SKEW"),
-    in_kerberos(TIME_AHEAD, "the authenticator's time is ahead of the clock", "KRB_AP_ERR_SKEW"),
-    in_kerberos(REPLAY, "a replay: the entry is in the cache", "KRB_AP_ERR_REPEAT"),
-    refusal(CACHE_FULL, "the replay cache holds 16 entries"),
-    refusal(TERMS_FULL, "the new terms do not all fit"),
-    refusal(NO_ROOM, "no room in the buffer for the walk"),
+    refusal(REFUSED_TABLES, "the tables do not hold together"),
+    refusal(REFUSED_FILE, "the file is over 65,536 bytes, or does not begin with a whole header"),
+    refusal(REFUSED_HEADER, "a header value is not allowed"),
+    refusal(REFUSED_RECORD, "another mark, or a record cut short; reading ends here"),
+    refusal(REFUSED_KIND, "no such kind or step"),
+    refusal(REFUSED_UNUSED, "a field that is not used is not 0"),
+    refusal(REFUSED_RANGE, "a field is out of range, or what it names is not there"),
+    refusal(REFUSED_STAGE, "the run's role or stage does not fit"),
+    refusal(REFUSED_CLOCK, "the clock would go back"),
+    refusal(REFUSED_RUNS_FULL, "64 runs exist"),
+    refusal(REFUSED_FORM, "the message has not the step's form"),
+    refusal(REFUSED_UNDERIVABLE, "the intruder cannot derive the message"),
+    in_kerberos(REFUSED_TICKET, "the ticket's life is over", "KRB_AP_ERR_TKT_EXPIRED"),
+    in_kerberos(REFUSED_AUTHENTICATOR, "the authenticator's life is over", "KRB_AP_ERR_SKEW"),
+    in_kerberos(REFUSED_AHEAD, "the authenticator's time is ahead of the clock", "KRB_AP_ERR_SKEW"),
+    in_kerberos(REFUSED_REPLAY, "a replay: the entry is in the cache", "KRB_AP_ERR_REPEAT"),
+    refusal(REFUSED_CACHE_FULL, "the replay cache holds 16 entries"),
+    refusal(REFUSED_TERMS_FULL, "the new terms do not all fit"),
+    refusal(REFUSED_ROOM, "no room in the buffer for the walk"),
 ];
 
 impl Refusal {

@@ -8,7 +8,7 @@ use engine::{Answer, Call, Entry, Header, Role, Run, Set, Stage, Tables, WIRE_WO
 use crate::message::{nonce_of, sent_by};
 use crate::notation::Names;
 use crate::reason;
-use crate::vocabulary::{Step, ANSWER, LEAK, TAKE_DELIVERY};
+use crate::vocabulary::{Step, ACCEPT, ISSUE, LEAK};
 
 /// A message that a step sent: its name in the table of steps, and the run.
 #[derive(Clone, Copy, Debug, PartialEq, Eq)]
@@ -83,7 +83,7 @@ impl Walk {
     /// The record at which a run took its delivery and so left this entry.
     pub fn remembered(&self, entry: Entry) -> Option<usize> {
         let is_it = |taken: &Taken| match (taken.call, taken.answer) {
-            (Call::Step { step: TAKE_DELIVERY, run, .. }, Answer::Ok { .. }) => {
+            (Call::Step { step: ACCEPT, run, .. }, Answer::Ok { .. }) => {
                 let run = taken.runs[usize::from(run)];
                 entry == Entry { b: run.b.into(), k: run.k.into(), ta: run.ta }
             }
@@ -148,7 +148,7 @@ impl Walk {
             return Vec::new();
         };
         let run = self.tables.run(number).expect("the run is there");
-        let nonce = if step == ANSWER { nonce_of(&self.tables, m).unwrap_or(0) } else { 0 };
+        let nonce = if step == ISSUE { nonce_of(&self.tables, m).unwrap_or(0) } else { 0 };
         let names = Step::of(step.into()).expect("an accepted step is in the table").sends;
         let messages = sent_by(step, number, &run, nonce);
         let sent = |(&name, message): (&&'static str, &crate::message::Message)| {
@@ -168,7 +168,7 @@ impl Walk {
     }
 
     fn acceptance(&self, call: Call, answer: Answer) -> Option<Acceptance> {
-        let Call::Step { step: TAKE_DELIVERY, .. } = call else { return None };
+        let Call::Step { step: ACCEPT, .. } = call else { return None };
         let Answer::Ok { run: Some(number), .. } = answer else { return None };
         let run = self.tables.run(number)?;
         let bad = [run.a, run.b].into_iter().find(|&principal| self.is_bad(principal));

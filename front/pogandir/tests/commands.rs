@@ -144,6 +144,8 @@ fn what_is_not_expected_is_told_in_words() {
     assert!(err(&pogandir(&["bytes", &wide], b"")).contains("UTF-16"));
     let noise = file(&folder, "noise", b"\0\x01\x02");
     assert!(err(&pogandir(&["bytes", &noise], b"")).contains("no characters"));
+    let short = file(&folder, "short.walk", b"H");
+    assert!(err(&pogandir(&["list", &short], b"")).contains("--walk reads it as a walk file"));
     // bytes that are text by chance are listed as a file where that is asked for
     let listed = pogandir(&["list", "--walk", "-"], b"HD no walk");
     assert_eq!(out(&listed), "0 file refused 1\n");

@@ -16,7 +16,7 @@ use pogandir::record::Record;
 use pogandir::script;
 use pogandir::sheet;
 use pogandir::sheet::rows::{rows, Change, Row};
-use pogandir::vocabulary::{DERIVE, ENCRYPTED, LONG_TERM_KEY, PAIR, TIME};
+use pogandir::vocabulary::{ENCRYPTED, LONG_TERM_KEY, PAIR, QUERY, TIME};
 use pogandir::walk::Acceptance;
 
 use readers::{attributes, balanced, csv};
@@ -80,7 +80,7 @@ fn walk_of(calls: &[Call], names: Names) -> Listed {
 /// x0, then pairs of the last term with itself, and the question for the last.
 fn doubled(first: Call, times: u16) -> Vec<Call> {
     let pair = |l| Call::Term { kind: PAIR, l, r: l };
-    let ask = Call::Step { step: DERIVE, run: 0, a: 0, b: 0, m: times, t: 0 };
+    let ask = Call::Step { step: QUERY, run: 0, a: 0, b: 0, m: times, t: 0 };
     [first].into_iter().chain((0..times).map(pair)).chain([ask]).collect()
 }
 

@@ -5,8 +5,8 @@ use std::collections::BTreeMap;
 use engine::{Call, Term};
 
 use super::rows::{Kind, Row};
-use crate::vocabulary::{Step, ANSWER, ASK, CLOCK, DERIVE, FORGET, LEAK, PAIR};
-use crate::vocabulary::{TAKE_DELIVERY, WAIT, WRONG_FORM};
+use crate::vocabulary::{Step, INITIATE, ISSUE, LEAK, PAIR, PURGE, QUERY, TICK};
+use crate::vocabulary::{ACCEPT, REFUSED_FORM, RESPOND};
 use crate::walk::{Acceptance, Walk};
 
 /// A lifeline: a run's, the server's where it refused and opened none, or the
@@ -79,14 +79,14 @@ fn act(walk: &Walk, senders: &Senders, row: &Row, call: Call) -> Act {
     // The run that an accepted step opened is the one that changed.
     let opened = row.runs.first().map(|run| run.run);
     match (step, row.refused) {
-        (DERIVE, refused) => Act::Derives { refused },
-        (ASK, None) => Act::Opens { run: opened.unwrap_or(run), name: "asks" },
-        (WAIT, None) => Act::Opens { run: opened.unwrap_or(run), name: "waits" },
-        (CLOCK, None) => Act::Clock(t),
-        (FORGET, None) => Act::Forgets { principal: b, count: row.forgotten() },
+        (QUERY, refused) => Act::Derives { refused },
+        (INITIATE, None) => Act::Opens { run: opened.unwrap_or(run), name: "asks" },
+        (RESPOND, None) => Act::Opens { run: opened.unwrap_or(run), name: "waits" },
+        (TICK, None) => Act::Clock(t),
+        (PURGE, None) => Act::Forgets { principal: b, count: row.forgotten() },
         (LEAK, None) => Act::Leaks { run, name: "key" },
-        (ANSWER, None) => takes(walk, senders, row, Lane::Run(opened.unwrap_or(run))),
-        (ANSWER, Some(_)) => takes(walk, senders, row, Lane::NoRun),
+        (ISSUE, None) => takes(walk, senders, row, Lane::Run(opened.unwrap_or(run))),
+        (ISSUE, Some(_)) => takes(walk, senders, row, Lane::NoRun),
         (_, None) => takes(walk, senders, row, Lane::Run(run)),
         (_, Some(refusal)) => {
             let takes_one = Step::of(step.into()).is_some_and(|step| step.takes.is_some());
@@ -126,8 +126,8 @@ fn parts(walk: &Walk, senders: &Senders, row: &Row, term: u16) -> Vec<Part> {
     let made = |name: &str| Part { from: Lane::Intruder, name: name.to_string() };
     match (sent(term), walk.tables.term(term)) {
         (Some(part), _) => vec![part],
-        (None, Some(Term { kind: PAIR, l, r })) if step == TAKE_DELIVERY => {
-            let fits = row.refused.is_none_or(|refusal| refusal > WRONG_FORM);
+        (None, Some(Term { kind: PAIR, l, r })) if step == ACCEPT => {
+            let fits = row.refused.is_none_or(|refusal| refusal > REFUSED_FORM);
             let halves = if fits { HALVES } else { ["part", "part"] };
             let half = |(term, name)| sent(term).unwrap_or_else(|| made(name));
             let halves: Vec<Part> = [l, r].into_iter().zip(halves).map(half).collect();

@@ -4,7 +4,7 @@
 use crate::listed::Listed;
 use crate::reason;
 use crate::record::Record;
-use crate::vocabulary::{Mark, HEADER_VALUE, LONGEST_FILE, MARKS};
+use crate::vocabulary::{Mark, LONGEST_FILE, MARKS, REFUSED_HEADER};
 
 /// What such a row is, in words.
 pub fn call(listed: &Listed, record: usize) -> String {
@@ -22,7 +22,7 @@ pub fn reason(listed: &Listed, record: usize, refusal: u8) -> String {
     }
     let rest = &listed.bytes[start_of(&listed.bytes, record)..];
     match (refusal, Record::first_of(rest)) {
-        (HEADER_VALUE, Some(record)) => {
+        (REFUSED_HEADER, Some(record)) => {
             record.header().map_or(String::new(), |header| reason::header(record.mark, &header))
         }
         _ => unread(rest),

@@ -3,7 +3,7 @@
 use engine::{Answer, Call, Entry, Role, Run, Stage};
 
 use crate::reason::{role, stage};
-use crate::vocabulary::{Kind, Step, ANSWER, ASK, CLOCK, DERIVE, FORGET, LEAK, WAIT};
+use crate::vocabulary::{Kind, Step, INITIATE, ISSUE, LEAK, PURGE, QUERY, RESPOND, TICK};
 use crate::walk::{Taken, Walk};
 
 /// The principal that a run is of.
@@ -38,13 +38,13 @@ fn step(walk: &Walk, taken: &Taken) -> String {
     let name = |principal| walk.names.principal(principal);
     let takes = Step::of(step.into()).and_then(|step| step.takes).unwrap_or("message");
     match step {
-        ASK => format!("{} asks the server for {}", name(a), name(b)),
-        WAIT => format!("{} waits for {}", name(b), name(a)),
-        ANSWER => format!("the server is handed the {takes}"),
-        CLOCK => format!("clock to {t}"),
-        FORGET => format!("{} forgets", name(b)),
+        INITIATE => format!("{} asks the server for {}", name(a), name(b)),
+        RESPOND => format!("{} waits for {}", name(b), name(a)),
+        ISSUE => format!("the server is handed the {takes}"),
+        TICK => format!("clock to {t}"),
+        PURGE => format!("{} forgets", name(b)),
         LEAK => format!("{}'s key leaks", walk.names.run(run)),
-        DERIVE => "can the intruder derive this?".to_string(),
+        QUERY => "can the intruder derive this?".to_string(),
         _ if Step::of(step.into()).is_none() => format!("step {step}"),
         _ => format!("{} is handed the {takes}", who(walk, taken, run)),
     }
