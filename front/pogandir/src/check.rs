@@ -1,11 +1,11 @@
 //! Whether a walk does what is expected of it.
 
+use crate::answers;
+use crate::ending::Ending;
 use crate::expect::ACCEPTED;
 use crate::json;
 use crate::listed::Listed;
-use crate::reason;
 use crate::script::{Script, Told};
-use crate::sentence::Ending;
 use crate::vocabulary::Refusal;
 
 /// A line or record that did something else.
@@ -176,7 +176,7 @@ pub fn expecting(listed: &Listed, lines: &[String]) -> Vec<String> {
         if record == 0 {
             return Some("ok".to_string());
         }
-        Some(reason::listed(listed.walk.as_ref()?.taken.get(record - 1)?.answer))
+        Some(answers::listed(listed.walk.as_ref()?.taken.get(record - 1)?.answer))
     };
     let ended = listed.ended();
     let expected = |(record, line): (usize, &String)| match ended {

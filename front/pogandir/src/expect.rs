@@ -3,7 +3,7 @@
 
 use engine::Answer;
 
-use crate::reason;
+use crate::answers;
 use crate::tokens::{number, wrong, Cursor, Wrong};
 
 /// What came of a line's record.
@@ -23,7 +23,7 @@ impl Outcome {
     pub fn shown(self) -> String {
         match self {
             Outcome::Opened => "ok".to_string(),
-            Outcome::Answered(answer) => reason::listed(answer),
+            Outcome::Answered(answer) => answers::listed(answer),
             Outcome::Ended(number) => format!("refused {number}"),
             Outcome::Unread => "not read".to_string(),
         }

@@ -1,8 +1,10 @@
 //! The front end: walks listed, checked against what is expected, shown as a sheet,
 //! and turned from words to bytes and back. The engine decides; nothing here does.
 
+pub mod answers;
 pub mod check;
 pub mod commands;
+pub mod ending;
 pub mod expect;
 pub mod expression;
 pub mod faults;
@@ -12,6 +14,7 @@ pub mod message;
 pub mod notation;
 pub mod options;
 pub mod plain;
+pub mod realm;
 pub mod reason;
 pub mod record;
 pub mod script;

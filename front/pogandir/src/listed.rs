@@ -1,8 +1,8 @@
 //! A walk file beside its listing. The listing is the engine's, of the whole file;
 //! the walk is the same records, call by call, with the tables after each.
 
+use crate::answers;
 use crate::notation::Names;
-use crate::reason;
 use crate::record::{split, Record};
 use crate::vocabulary::{REFUSED_FILE, REFUSED_HEADER};
 use crate::walk::Walk;
@@ -50,7 +50,7 @@ impl Listed {
             return;
         };
         for (record, taken) in walk.taken.iter().enumerate() {
-            let answer = reason::listed(taken.answer);
+            let answer = answers::listed(taken.answer);
             let line = &self.lines[record + 1];
             assert!(line.ends_with(&format!(" {answer}")), "{line} is not {answer}");
         }

@@ -6,6 +6,7 @@ use std::collections::{BTreeMap, BTreeSet};
 
 use engine::{Call, Header};
 
+use crate::ending::{is_ending, Ending};
 use crate::expect::{self, Expected, Outcome};
 use crate::faults::{Fault, Severity};
 use crate::listed::Listed;
@@ -13,7 +14,7 @@ use crate::notation::{Meaning, Names};
 use crate::plain::{self, Plain};
 use crate::reason;
 use crate::record::Record;
-use crate::sentence::{self, Ending, Stop};
+use crate::sentence::{self, Stop};
 use crate::tokens::{tokens, Cursor, Token, Wrong};
 use crate::vocabulary::*;
 use crate::walk::Walk;
@@ -148,7 +149,7 @@ impl Reader {
         if tokens.is_empty() {
             return;
         }
-        if sentence::is_ending(body) {
+        if is_ending(body) {
             return self.read_ending(behind.unwrap_or_default());
         }
         let expected = behind.map(|behind| expect::read(Cursor::new(behind)));

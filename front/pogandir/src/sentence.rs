@@ -2,12 +2,13 @@
 //! Each is one step, with the terms before it that its message needs and that are
 //! not there yet. Numbers of runs and terms are what the engine answers.
 
-use engine::{Answer, Call, Header, Role, Stage};
+use engine::{Answer, Call, Role, Stage};
 
 use crate::expect::Outcome;
 use crate::expression::{atom, message, principal, run};
 use crate::message::Message;
 use crate::notation::Meaning;
+use crate::realm::{realm, EXAMPLE};
 use crate::script::{Done, Reader, State};
 use crate::tokens::{number, wrong, Cursor, Token, Wrong};
 use crate::vocabulary::*;
@@ -28,8 +29,6 @@ impl From<Wrong> for Stop {
     }
 }
 
-const FIRST_LINE: &str = "realm 3 principals, ticket life 100, authenticator life 10";
-
 const SENTENCES: &str = "a line is a record (HD, HW, TM, ST, raw) or one of: realm .., NAME = 1, \
     NAME = P asks Q, NAME = Q waits for P, NAME = server answers RUN, RUN takes MESSAGE, \
     clock 20, P forgets, leak RUN, intruder derives MESSAGE, term MESSAGE, NAME = MESSAGE, end => ..";
@@ -46,7 +45,7 @@ impl Reader {
         match &self.state {
             State::Open(walk) => Ok(walk),
             State::Start => {
-                wrong(column, format!("a walk begins with its realm, as in: {FIRST_LINE}"))
+                wrong(column, format!("a walk begins with its realm, as in: {EXAMPLE}"))
             }
             State::Ended(number) => wrong(
                 column,
@@ -138,80 +137,6 @@ pub fn perform(reader: &mut Reader, mut cursor: Cursor) -> Result<Option<Done>, 
     done.map(Some)
 }
 
-// ---- the realm
-
-/// realm [HW] 3 principals, ticket life 100, authenticator life 10, bad p1 and p2
-fn realm(reader: &mut Reader, mut cursor: Cursor) -> Result<Done, Stop> {
-    let column = cursor.column();
-    if !matches!(reader.state, State::Start) {
-        return Ok(wrong(column, "a walk has one realm, and this one has begun")?);
-    }
-    let mark = cursor.peek().and_then(Mark::named).filter(|mark| mark.is_header());
-    if mark.is_some() {
-        cursor.advance();
-    }
-    let n = cursor.needs_number("the number of principals", u8::MAX.into())? as u8;
-    cursor.needs("principals")?;
-    let mut header = Header {
-        mark: mark.unwrap_or_else(|| mark_for(n)).number(),
-        n,
-        flags: 0,
-        ticket_life: 0,
-        authenticator_life: 0,
-    };
-    while !cursor.is_done() {
-        cursor.needs(",")?;
-        clause(reader, &mut cursor, &mut header)?;
-    }
-    for (life, what) in
-        [(header.ticket_life, "ticket life"), (header.authenticator_life, "authenticator life")]
-    {
-        if life == 0 {
-            return Ok(wrong(column, format!("the realm needs its {what}, as in: {FIRST_LINE}"))?);
-        }
-    }
-    Ok(reader.open(&header))
-}
-
-/// The first mark in the table that allows so many principals, or else the last.
-fn mark_for(n: u8) -> &'static Mark {
-    let mut marks = MARKS.iter().filter(|mark| mark.is_header());
-    let allows = |mark: &&Mark| matches!(mark.purpose, Use::Header { most } if n <= most);
-    marks.clone().find(allows).or_else(|| marks.next_back()).expect("there is a header")
-}
-
-fn clause(reader: &Reader, cursor: &mut Cursor, header: &mut Header) -> Result<(), Stop> {
-    if cursor.takes("ticket") {
-        cursor.needs("life")?;
-        header.ticket_life = cursor.needs_number("the ticket's life", u32::MAX)?;
-    } else if cursor.takes("authenticator") {
-        cursor.needs("life")?;
-        header.authenticator_life = cursor.needs_number("the authenticator's life", u32::MAX)?;
-    } else if cursor.takes("bad") {
-        loop {
-            let column = cursor.column();
-            let bad = principal(reader, cursor)?;
-            if bad >= 32 {
-                return Ok(wrong(
-                    column,
-                    format!("principal {bad} is not there: flags go up to 31"),
-                )?);
-            }
-            header.flags |= 1 << bad;
-            if !(cursor.takes("and") || cursor.takes(",")) {
-                return Ok(());
-            }
-        }
-    } else {
-        let clauses = "ticket life 100, authenticator life 10, bad NAME and NAME";
-        return Ok(wrong(
-            cursor.column(),
-            format!("a clause of the realm is expected here: {clauses}"),
-        )?);
-    }
-    Ok(())
-}
-
 // ---- names
 
 /// NAME = ..
@@ -222,7 +147,7 @@ fn naming(reader: &mut Reader, mut cursor: Cursor) -> Result<Option<Done>, Stop>
         return principals(reader, name, cursor);
     }
     reader.is_free(name)?;
-    if cursor.second().is_some_and(|verb| ["asks", "waits", "answers"].contains(&verb)) {
+    if cursor.second().is_some_and(opens_run) {
         let done = deed(reader, cursor)?;
         if let Outcome::Answered(Answer::Ok { run: Some(run), .. }) = done.outcome {
             reader.give(&name.text, Meaning::Run(run));
@@ -236,6 +161,11 @@ fn naming(reader: &mut Reader, mut cursor: Cursor) -> Result<Option<Done>, Stop>
     let number = reader.add(&message)?;
     reader.give(&name.text, Meaning::Message(number));
     Ok(None)
+}
+
+/// Whether a verb is of a step that opens a run.
+fn opens_run(verb: &str) -> bool {
+    ["asks", "waits", "answers"].contains(&verb.to_ascii_lowercase().as_str())
 }
 
 fn is_number_alone(cursor: &Cursor) -> bool {
@@ -305,7 +235,8 @@ fn deed(reader: &mut Reader, mut cursor: Cursor) -> Result<Done, Stop> {
     if subject.peek() == Some("run") {
         cursor.advance();
     }
-    let verb = cursor.advance().map_or("", |token| token.text.as_str());
+    let verb = cursor.advance().map_or(String::new(), |token| token.text.to_ascii_lowercase());
+    let verb = verb.as_str();
     if !["asks", "waits", "answers", "forgets", "takes"].contains(&verb) {
         return Ok(wrong(start, format!("this is no sentence; {SENTENCES}"))?);
     }
@@ -386,40 +317,4 @@ fn takes(reader: &mut Reader, mut subject: Cursor, mut cursor: Cursor) -> Result
     cursor.needs_end()?;
     let m = reader.add(&message)?;
     Ok(reader.call(step(number, run, m)))
-}
-
-// ---- the end
-
-/// What the listing's last line is expected to tell.
-#[derive(Clone, Debug, Default, PartialEq, Eq)]
-pub struct Ending {
-    pub line: usize,
-    /// A word of the line, `runs`, `wire`, `cache` or `clock`, and its number.
-    pub counts: Vec<(String, u32)>,
-}
-
-/// Whether a line is `end =>` or `at the end =>`.
-pub fn is_ending(body: &[Token]) -> bool {
-    let words: Vec<&str> = body.iter().map(|token| token.text.as_str()).collect();
-    matches!(words[..], ["end"] | ["at", "the", "end"])
-}
-
-impl Ending {
-    pub fn read(line: usize, mut cursor: Cursor) -> Result<Ending, Wrong> {
-        let mut ending = Ending { line, counts: Vec::new() };
-        loop {
-            let word = cursor.needs_any("runs, wire, cache or clock, and a number,")?;
-            if !["runs", "wire", "cache", "clock"].contains(&word.text.as_str()) {
-                return wrong(
-                    word.column,
-                    format!("'{}' is not told at the end; runs, wire, cache, clock are", word.text),
-                );
-            }
-            ending.counts.push((word.text.clone(), cursor.needs_number(&word.text, u32::MAX)?));
-            cursor.takes(",");
-            if cursor.is_done() {
-                return Ok(ending);
-            }
-        }
-    }
 }

@@ -5,6 +5,7 @@ use std::collections::BTreeMap;
 
 use engine::{Answer, Call, Entry, Header, Role, Run, Set, Stage, Tables, WIRE_WORDS};
 
+use crate::answers;
 use crate::message::{nonce_of, sent_by};
 use crate::notation::Names;
 use crate::reason;
@@ -98,13 +99,13 @@ impl Walk {
         let answer = self.tables.call(call);
         let mut reason = match answer {
             Answer::Refused(number) => reason::refused(self, &before, call, number),
-            _ => reason::accepted(self, &before, call),
+            _ => answers::accepted(self, &before, call),
         };
         let sent = self.sent(call, answer);
         self.note_leak(call, answer);
         let acceptance = self.acceptance(call, answer);
         if let Some(acceptance) = &acceptance {
-            reason = reason::acceptance(self, acceptance);
+            reason = answers::acceptance(self, acceptance);
         }
         let taken = Taken {
             call,

@@ -8,7 +8,7 @@ use pogandir::listed::Listed;
 use pogandir::notation::{notation, Names};
 use pogandir::plain;
 use pogandir::script::read;
-use pogandir::{check, reason};
+use pogandir::{answers, check};
 
 fn files() -> impl Iterator<Item = Vec<u8>> {
     (0..500).flat_map(|number| [walk_file(91, number), damaged_file(92, number)])
@@ -82,9 +82,9 @@ fn random_words_are_read() {
 
 #[test]
 fn answers_are_shown_as_in_the_listing() {
-    assert_eq!(reason::listed(Answer::Old(3)), "3 old");
-    assert_eq!(reason::listed(Answer::New(17)), "17 new");
-    assert_eq!(reason::listed(Answer::Ok { run: Some(2), added: 1 }), "ok 2 +1");
-    assert_eq!(reason::listed(Answer::Ok { run: None, added: 0 }), "ok - +0");
-    assert_eq!(reason::listed(Answer::Refused(18)), "refused 18");
+    assert_eq!(answers::listed(Answer::Old(3)), "3 old");
+    assert_eq!(answers::listed(Answer::New(17)), "17 new");
+    assert_eq!(answers::listed(Answer::Ok { run: Some(2), added: 1 }), "ok 2 +1");
+    assert_eq!(answers::listed(Answer::Ok { run: None, added: 0 }), "ok - +0");
+    assert_eq!(answers::listed(Answer::Refused(18)), "refused 18");
 }

@@ -4,7 +4,7 @@
 use super::chart::{Group, Layout};
 use super::events::{Act, Event, Lane, Note, Part};
 use super::html::escape;
-use crate::reason::role;
+use crate::answers::role;
 use crate::walk::Walk;
 
 const HEAD: usize = 56;

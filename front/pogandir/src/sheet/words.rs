@@ -2,7 +2,7 @@
 
 use engine::{Answer, Call, Entry, Role, Run, Stage};
 
-use crate::reason::{role, stage};
+use crate::answers::{role, stage};
 use crate::vocabulary::{Kind, Step, INITIATE, ISSUE, LEAK, PURGE, QUERY, RESPOND, TICK};
 use crate::walk::{Taken, Walk};
 
