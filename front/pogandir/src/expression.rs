@@ -6,7 +6,7 @@ use engine::{Role, Run, Stage};
 use crate::message::{list, Message};
 use crate::notation::Meaning;
 use crate::script::Reader;
-use crate::sentence::Stop;
+use crate::sentence::{stop, Stop};
 use crate::tokens::{number, wrong, Cursor, Token, Wrong};
 use crate::vocabulary::{MOST_NONCE_OR_KEY, STEPS};
 use crate::walk::Walk;
@@ -22,7 +22,7 @@ pub fn message(reader: &Reader, cursor: &mut Cursor) -> Result<Message, Stop> {
 fn nested(reader: &Reader, cursor: &mut Cursor, depth: usize) -> Result<Message, Stop> {
     let column = cursor.column();
     if depth > DEEPEST {
-        return Ok(wrong(column, "the message is deeper than a table of 512 terms holds")?);
+        return stop(column, "the message is deeper than a table of 512 terms holds");
     }
     let token = cursor.needs_any("a message")?;
     match token.text.as_str() {
@@ -66,7 +66,7 @@ fn of_run(
 ) -> Result<Message, Stop> {
     if !["k", "N", "Ts", "Ta"].contains(&name) {
         let known = "K(principal), k(run), N(run), Ts(run) and Ta(run) are known";
-        return Ok(wrong(column, format!("'{name}(' is not known; {known}"))?);
+        return stop(column, format!("'{name}(' is not known; {known}"));
     }
     cursor.needs("(")?;
     let number = run(reader, cursor)?;
@@ -74,7 +74,7 @@ fn of_run(
     let row = reader.walk(column)?.tables.run(number).expect("the run is there");
     if !holds(&row, name) {
         let run = reader.walk(column)?.names.run(number);
-        return Ok(wrong(column, format!("{run} has no {name}: {}", why_not(&row)))?);
+        return stop(column, format!("{run} has no {name}: {}", why_not(&row)));
     }
     Ok(match name {
         "k" => Message::SessionKey(row.k.into()),
@@ -105,10 +105,7 @@ fn word(reader: &Reader, cursor: &mut Cursor, token: &Token) -> Result<Message, 
         let most = reader.walk(*column)?.tables.realm.terms;
         let number = cursor.needs_number("the term's number", u16::MAX.into())?;
         if number as usize >= most {
-            return Ok(wrong(
-                *column,
-                format!("term {number} is not there; there are {most} terms"),
-            )?);
+            return stop(*column, format!("term {number} is not there; there are {most} terms"));
         }
         return Ok(Message::Present(number as u16));
     }
@@ -154,7 +151,7 @@ fn named(reader: &Reader, name: &str, column: usize) -> Result<Message, Stop> {
         Meaning::Message(number) => Ok(Message::Present(number)),
         Meaning::Run(number) => {
             let sent = sent(reader.walk(column)?, number);
-            Ok(wrong(column, format!("{name} is a run; its messages are {}", listed(name, &sent)))?)
+            stop(column, format!("{name} is a run; its messages are {}", listed(name, &sent)))
         }
     }
 }
@@ -177,7 +174,7 @@ fn listed(name: &str, sent: &[(&'static str, u16)]) -> String {
 /// `s0.ticket`, or `s0.key`.
 fn part_of(reader: &Reader, name: &str, part: &str, column: usize) -> Result<Message, Stop> {
     let Meaning::Run(number) = meaning(reader, name, column, "a run")? else {
-        return Ok(wrong(column, format!("'{name}' is no run, so it has no '{part}'"))?);
+        return stop(column, format!("'{name}' is no run, so it has no '{part}'"));
     };
     let walk = reader.walk(column)?;
     let row = walk.tables.run(number).expect("the run is there");
@@ -194,7 +191,7 @@ fn part_of(reader: &Reader, name: &str, part: &str, column: usize) -> Result<Mes
     let exists = STEPS.iter().any(|step| step.sends.contains(&part));
     let what = if exists { "has not sent one" } else { "sends no such message" };
     let listed = listed(name, &sent);
-    Ok(wrong(column, format!("'{name}.{part}': {name} {what}; what it has sent: {listed}"))?)
+    stop(column, format!("'{name}.{part}': {name} {what}; what it has sent: {listed}"))
 }
 
 /// What a name stands for.
@@ -207,7 +204,7 @@ pub fn meaning(reader: &Reader, name: &str, column: usize, wanted: &str) -> Resu
     }
     let known: Vec<&str> = reader.meanings.keys().map(String::as_str).collect();
     let known = if known.is_empty() { "none".to_string() } else { known.join(", ") };
-    Ok(wrong(column, format!("'{name}' is not the name of {wanted}; names so far: {known}"))?)
+    stop(column, format!("'{name}' is not the name of {wanted}; names so far: {known}"))
 }
 
 /// A principal: a name, `server`, `p1` or `1`.
@@ -226,7 +223,7 @@ pub fn principal(reader: &Reader, cursor: &mut Cursor) -> Result<u8, Stop> {
     }
     match meaning(reader, text, *column, "a principal")? {
         Meaning::Principal(number) => Ok(number),
-        _ => Ok(wrong(*column, format!("'{text}' is no principal"))?),
+        _ => stop(*column, format!("'{text}' is no principal")),
     }
 }
 
@@ -238,15 +235,12 @@ pub fn run(reader: &Reader, cursor: &mut Cursor) -> Result<u8, Stop> {
         let number = cursor.needs_number("the run's number", u8::MAX.into())?;
         let count = reader.walk(*column)?.tables.realm.runs;
         if number as usize >= count {
-            return Ok(wrong(
-                *column,
-                format!("run {number} is not there; there are {count} runs"),
-            )?);
+            return stop(*column, format!("run {number} is not there; there are {count} runs"));
         }
         return Ok(number as u8);
     }
     match meaning(reader, text, *column, "a run")? {
         Meaning::Run(number) => Ok(number),
-        _ => Ok(wrong(*column, format!("'{text}' is no run"))?),
+        _ => stop(*column, format!("'{text}' is no run")),
     }
 }

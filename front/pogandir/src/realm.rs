@@ -4,8 +4,8 @@ use engine::Header;
 
 use crate::expression::principal;
 use crate::script::{Done, Reader, State};
-use crate::sentence::Stop;
-use crate::tokens::{wrong, Cursor};
+use crate::sentence::{stop, Stop};
+use crate::tokens::Cursor;
 use crate::vocabulary::{Mark, Use, MARKS};
 
 /// A realm as an example, for messages.
@@ -15,7 +15,7 @@ pub const EXAMPLE: &str = "realm 3 principals, ticket life 100, authenticator li
 pub fn realm(reader: &mut Reader, mut cursor: Cursor) -> Result<Done, Stop> {
     let column = cursor.column();
     if !matches!(reader.state, State::Start) {
-        return Ok(wrong(column, "a walk has one realm, and this one has begun")?);
+        return stop(column, "a walk has one realm, and this one has begun");
     }
     let mark = cursor.peek().and_then(Mark::named).filter(|mark| mark.is_header());
     if mark.is_some() {
@@ -38,7 +38,7 @@ pub fn realm(reader: &mut Reader, mut cursor: Cursor) -> Result<Done, Stop> {
         [(header.ticket_life, "ticket life"), (header.authenticator_life, "authenticator life")]
     {
         if life == 0 {
-            return Ok(wrong(column, format!("the realm needs its {what}, as in: {EXAMPLE}"))?);
+            return stop(column, format!("the realm needs its {what}, as in: {EXAMPLE}"));
         }
     }
     Ok(reader.open(&header))
@@ -63,10 +63,7 @@ fn clause(reader: &Reader, cursor: &mut Cursor, header: &mut Header) -> Result<(
             let column = cursor.column();
             let bad = principal(reader, cursor)?;
             if bad >= 32 {
-                return Ok(wrong(
-                    column,
-                    format!("principal {bad} is not there: flags go up to 31"),
-                )?);
+                return stop(column, format!("principal {bad} is not there: flags go up to 31"));
             }
             header.flags |= 1 << bad;
             if !(cursor.takes("and") || cursor.takes(",")) {
@@ -75,10 +72,7 @@ fn clause(reader: &Reader, cursor: &mut Cursor, header: &mut Header) -> Result<(
         }
     } else {
         let clauses = "ticket life 100, authenticator life 10, bad NAME and NAME";
-        return Ok(wrong(
-            cursor.column(),
-            format!("a clause of the realm is expected here: {clauses}"),
-        )?);
+        return stop(cursor.column(), format!("a clause of the realm is expected here: {clauses}"));
     }
     Ok(())
 }

@@ -23,6 +23,11 @@ pub enum Stop {
     Refused(Done),
 }
 
+/// At a column, this is wrong.
+pub fn stop<T>(column: usize, message: impl Into<String>) -> Result<T, Stop> {
+    Ok(wrong(column, message)?)
+}
+
 impl From<Wrong> for Stop {
     fn from(wrong: Wrong) -> Stop {
         Stop::Wrong(wrong)
@@ -156,6 +161,7 @@ fn naming(reader: &mut Reader, mut cursor: Cursor) -> Result<Option<Done>, Stop>
         }
         return Ok(Some(done));
     }
+    reader.walk(cursor.column())?;
     let message = message(reader, &mut cursor)?;
     cursor.needs_end()?;
     let number = reader.add(&message)?;
@@ -238,7 +244,7 @@ fn deed(reader: &mut Reader, mut cursor: Cursor) -> Result<Done, Stop> {
     let verb = cursor.advance().map_or(String::new(), |token| token.text.to_ascii_lowercase());
     let verb = verb.as_str();
     if !["asks", "waits", "answers", "forgets", "takes"].contains(&verb) {
-        return Ok(wrong(start, format!("this is no sentence; {SENTENCES}"))?);
+        return stop(start, format!("this is no sentence; {SENTENCES}"));
     }
     reader.walk(start)?;
     match verb {
@@ -270,7 +276,7 @@ fn opens(
 /// The server answers a run's request, or any message.
 fn answers(reader: &mut Reader, subject: Cursor, mut cursor: Cursor) -> Result<Done, Stop> {
     if subject.peek() != Some("server") {
-        return Ok(wrong(subject.column(), "the server answers, nobody else")?);
+        return stop(subject.column(), "the server answers, nobody else");
     }
     let named = cursor.peek().and_then(|name| reader.meanings.get(name));
     let message = match named {
@@ -310,7 +316,7 @@ fn takes(reader: &mut Reader, mut subject: Cursor, mut cursor: Cursor) -> Result
         (Role::Initiator, Stage::Opened) => AUTHENTICATE,
         (Role::Initiator, _) => FINISH,
         (Role::Server, _) => {
-            return Ok(wrong(subject.column(), "a server run takes nothing: it is done")?);
+            return stop(subject.column(), "a server run takes nothing: it is done");
         }
     });
     let message = message(reader, &mut cursor)?;

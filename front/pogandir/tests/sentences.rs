@@ -273,6 +273,9 @@ fn a_fault_is_told_once() {
 fn sentences_need_a_walk_that_is_read() {
     let before = read("text", "panel = 1\nclock 5");
     assert!(before.faults[0].message.contains("a walk begins with its realm"));
+    let message = read("text", "x = t0");
+    assert!(message.faults[0].message.contains("a walk begins with its realm"));
+    assert_eq!(message.listed.bytes, []);
     let refused = read("text", "HD n=2 Ls=1 La=1\nclock 5");
     assert!(refused.faults[1].message.contains("reading has ended with refusal 2"));
     let raw = read("text", "HD n=3 Ls=1 La=1\nraw 00\nclock 5");
