@@ -87,40 +87,38 @@ fn run_files(options: &Options) -> io::Result<u8> {
             output.extend(b",\n");
         }
         output.extend(made.output);
-        if !options.json {
-            write(options, &mut output)?;
+        // a file or a JSON text is written whole, at the end
+        if !options.json && options.output.is_none() {
+            print(&mut output)?;
         }
     }
-    finish(options, output, good)?;
+    finish(options, output, good, status)?;
     Ok(status)
 }
 
-/// Writes what is left: the whole of JSON, or a last line for many files.
-fn finish(options: &Options, output: Vec<u8>, good: usize) -> io::Result<()> {
+/// Writes what is left: the whole of a file or of JSON, and a last line for many
+/// checks.
+fn finish(options: &Options, mut output: Vec<u8>, good: usize, status: u8) -> io::Result<()> {
     let files = options.files.len();
     if options.json {
-        let mut whole = [b"[", &output[..], b"]\n"].concat();
-        return write(options, &mut whole);
-    }
-    if options.command == Command::Check && files > 1 {
+        output = [b"[", &output[..], b"]\n"].concat();
+    } else if options.command == Command::Check && files > 1 {
         let line = format!("{files} files, {good} as expected, {} not\n", files - good);
-        return write(options, &mut line.into_bytes());
+        output.extend(line.into_bytes());
     }
-    Ok(())
+    let Some(path) = &options.output else { return print(&mut output) };
+    // a file stays as it was where nothing was made for it
+    if output.is_empty() && status >= BAD_INPUT {
+        return Ok(());
+    }
+    let named = |error: io::Error| io::Error::new(error.kind(), format!("{path}: {error}"));
+    fs::write(path, &output).map_err(named)
 }
 
-/// Writes the buffer and empties it.
-fn write(options: &Options, buffer: &mut Vec<u8>) -> io::Result<()> {
-    match &options.output {
-        None => {
-            let mut out = io::stdout().lock();
-            out.write_all(buffer).and_then(|()| out.flush())?;
-        }
-        Some(path) => {
-            let named = |error: io::Error| io::Error::new(error.kind(), format!("{path}: {error}"));
-            fs::write(path, &buffer).map_err(named)?;
-        }
-    }
+/// Writes the buffer to standard output and empties it.
+fn print(buffer: &mut Vec<u8>) -> io::Result<()> {
+    let mut out = io::stdout().lock();
+    out.write_all(buffer).and_then(|()| out.flush())?;
     buffer.clear();
     Ok(())
 }

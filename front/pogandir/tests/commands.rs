@@ -126,6 +126,23 @@ fn words_and_bytes_turn_into_each_other() {
     assert_eq!(status(&pogandir(&["check", "-"], &expecting.stdout)), 0);
 }
 
+/// An output file has all of it, and is not touched for an input that is bad.
+#[test]
+fn an_output_file_is_written_whole_or_not_at_all() {
+    let folder = folder("whole");
+    let bad = file(&folder, "bad.txt", "HD n=x");
+    let kept = file(&folder, "kept.walk", "as it was");
+    assert_eq!(status(&pogandir(&["bytes", &bad, "-o", &kept], b"")), 2);
+    assert_eq!(fs::read(&kept).unwrap(), b"as it was");
+    let both = folder.join("both").to_str().unwrap().to_string();
+    let (one, two) = (example("case-f.walk"), example("case-d.walk"));
+    assert_eq!(status(&pogandir(&["list", &one, &two, "-o", &both], b"")), 0);
+    let printed = pogandir(&["list", &one, &two], b"");
+    assert_eq!(fs::read_to_string(&both).unwrap(), out(&printed));
+    assert_eq!(status(&pogandir(&["check", &one, &two, "--json", "-o", &both], b"")), 1);
+    assert!(fs::read_to_string(&both).unwrap().starts_with("[{\"file\""));
+}
+
 #[test]
 fn what_is_not_expected_is_told_in_words() {
     let folder = folder("words");
