@@ -14,8 +14,9 @@
  *   - A `bool` is 0 or 1.
  *   - Nobody else reads or writes the tables during a call.
  * Nothing else is required. The tables, the realm and the fields of a call may
- * hold any values, and a table that is lent with other than its full number of
- * places is answered 10; neither is undefined.
+ * hold any values, and a table of pogandir_call or pogandir_known that is lent
+ * with other than its full number of places is answered 10; neither is
+ * undefined.
  *
  * No pointer is kept after a call, and there is no global state. So separate
  * tables can be used from separate threads.
@@ -94,7 +95,8 @@ enum {
 };
 
 /* The words of a row of the table of runs; row r begins at word 7 * r. What is
- * not yet taken of k, ts and ta is 0. */
+ * not yet taken of k, ts and ta is 0, which is also a key and a time: the stage
+ * tells which. */
 enum {
     POGANDIR_RUN_ROLE = 0,
     POGANDIR_RUN_STAGE = 1,
@@ -161,7 +163,8 @@ typedef struct pogandir_header {
 } pogandir_header;
 
 /* A realm: its header's values, its clock, and how many places of each table
- * are in use. It goes by value: after a call the reply has the next one. */
+ * are in use. It goes by value: after a call the reply has the next one. It has
+ * padding, so two are compared by their fields. */
 typedef struct pogandir_realm {
     uint8_t n;
     uint32_t flags;
@@ -231,8 +234,8 @@ typedef struct pogandir_opened {
  * which every call is answered 10.
  *
  * The tables of a new realm are the caller's: all of the full number of places
- * and no bit set in the wire. Their other places may hold anything, since no
- * call reads a place past its count. */
+ * and no bit set in the wire. Places of terms, runs and cache may hold anything,
+ * since none past its count is read. */
 pogandir_opened pogandir_open(pogandir_header header);
 
 /* Adds a term or takes a step.
@@ -255,7 +258,13 @@ pogandir_opened pogandir_open(pogandir_header header);
  * cache are as the step says. All other places keep their values, but those
  * that forgetting freed, which become 0.
  *
- * Places at or past a count are not read. */
+ * New terms stand in this order: each after its parts, left before right, body
+ * before key; docs/MODEL.md has it with an example.
+ *
+ * Places of terms, runs and cache at or past their counts are not read. A mark
+ * on the wire at or past the number of terms is answered 10; so to undo a call,
+ * copy the realm and the tables before it and bring them back. Lowering the
+ * counts is not enough. */
 pogandir_reply pogandir_call(pogandir_realm realm,
                              uint64_t *terms, size_t terms_length,
                              uint32_t *runs, size_t runs_length,
@@ -296,8 +305,10 @@ pogandir_listed pogandir_list(const uint8_t *file, size_t file_length,
  * as they were. Or a refusal, the first that applies, and every byte is as it
  * was: 1 (the file would be over POGANDIR_FILE_BYTES, or the header's mark is
  * not known), 2, then 3 to 6 of the first record that has one, and 21 last, if
- * fewer bytes are left at the offset than the file needs. Whether a run or a
- * term is there is not looked at: only the walk can tell. */
+ * fewer bytes are left at the offset than the file needs. 3 is an unknown mark
+ * or a number of words that is no multiple of POGANDIR_RECORD_WORDS; a word that
+ * is wider than its field gets what the field gets. Whether a run or a term is
+ * there is not looked at: only the walk can tell. */
 pogandir_filed pogandir_write(pogandir_header header,
                               const uint32_t *words, size_t words_length,
                               uint8_t *out, size_t out_length, size_t at);

@@ -104,7 +104,18 @@ REFUSED_AHEAD = 22
 # The structs, field by field as in the header.
 
 
-class Header(ctypes.Structure):
+class Struct(ctypes.Structure):
+    """A struct whose numbers fit their fields; ctypes by itself would cut them off."""
+
+    def __init__(self, *values, **named):
+        super().__init__(*values, **named)
+        given = {**dict(zip((field[0] for field in self._fields_), values)), **named}
+        for name, value in given.items():
+            if isinstance(value, int) and getattr(self, name) != value:
+                raise ValueError(f"{name}: {value} does not fit its field")
+
+
+class Header(Struct):
     _fields_ = [
         ("mark", ctypes.c_uint16),
         ("n", ctypes.c_uint8),
@@ -114,7 +125,7 @@ class Header(ctypes.Structure):
     ]
 
 
-class Realm(ctypes.Structure):
+class Realm(Struct):
     _fields_ = [
         ("n", ctypes.c_uint8),
         ("flags", ctypes.c_uint32),
@@ -127,7 +138,7 @@ class Realm(ctypes.Structure):
     ]
 
 
-class Entry(ctypes.Structure):
+class Entry(Struct):
     _fields_ = [
         ("b", ctypes.c_uint16),
         ("k", ctypes.c_uint16),
@@ -135,7 +146,7 @@ class Entry(ctypes.Structure):
     ]
 
 
-class Record(ctypes.Structure):
+class Record(Struct):
     _fields_ = [
         ("adds", ctypes.c_bool),
         ("kind", ctypes.c_uint8),
@@ -150,7 +161,7 @@ class Record(ctypes.Structure):
     ]
 
 
-class Reply(ctypes.Structure):
+class Reply(Struct):
     _fields_ = [
         ("realm", Realm),
         ("kind", ctypes.c_uint8),
@@ -159,21 +170,21 @@ class Reply(ctypes.Structure):
     ]
 
 
-class Listed(ctypes.Structure):
+class Listed(Struct):
     _fields_ = [
         ("fits", ctypes.c_bool),
         ("count", ctypes.c_size_t),
     ]
 
 
-class Filed(ctypes.Structure):
+class Filed(Struct):
     _fields_ = [
         ("refusal", ctypes.c_uint8),
         ("count", ctypes.c_size_t),
     ]
 
 
-class Opened(ctypes.Structure):
+class Opened(Struct):
     _fields_ = [
         ("realm", Realm),
         ("refusal", ctypes.c_uint8),
@@ -220,6 +231,11 @@ def term_right(word):
 
 def term_time(word):
     return word & 0xFFFFFFFF
+
+
+def term_word(kind, l, r=0):
+    """The word of a term, to look for it in a table."""
+    return kind << 32 | l << 16 | r
 
 
 def members(packed):
@@ -288,6 +304,14 @@ class Tables:
         self.runs = (ctypes.c_uint32 * RUN_WORDS)()
         self.wire = (ctypes.c_uint64 * WIRE_WORDS)()
         self.cache = (Entry * CACHE_PLACES)()
+
+    def copy(self):
+        """The same realm in tables of its own: a call on one leaves the other as it is."""
+        other = Tables(self.library, Realm.from_buffer_copy(self.realm))
+        for name in ("terms", "runs", "wire", "cache"):
+            table = getattr(self, name)
+            setattr(other, name, type(table).from_buffer_copy(table))
+        return other
 
     def call(self, record):
         """Adds a term or takes a step. The reply has the realm for the next call."""

@@ -1,8 +1,8 @@
 //! The proved engine from Rust: what the crate `exported` exports, declared
 //! again (`foreign`) and wrapped, so that nothing outside is `unsafe`.
 //!
-//! No function requires anything of what it is lent. Every answer is the
-//! engine's; this crate decides nothing.
+//! The functions of the engine require nothing of what they are lent. Every
+//! answer is the engine's; this crate decides nothing.
 
 mod foreign;
 mod tables;

@@ -164,16 +164,15 @@ impl Tables {
 
     /// A term that is present.
     pub fn term(&self, number: u16) -> Option<Term> {
-        let number = usize::from(number);
-        let word = *self.terms[..self.realm.terms].get(number)?;
+        let word = *self.terms.get(..self.realm.terms)?.get(usize::from(number))?;
         Some(Term { kind: (word >> 32) as u8, l: (word >> 16) as u16, r: word as u16 })
     }
 
     /// The number of a term, if it is present.
     pub fn find(&self, term: Term) -> Option<u16> {
         let word = u64::from(term.kind) << 32 | u64::from(term.l) << 16 | u64::from(term.r);
-        let place = self.terms[..self.realm.terms].iter().position(|&other| other == word)?;
-        Some(place as u16)
+        let present = self.terms.get(..self.realm.terms)?;
+        present.iter().position(|&other| other == word).map(|place| place as u16)
     }
 
     /// A run that is present.
@@ -182,21 +181,26 @@ impl Tables {
         if number >= self.realm.runs {
             return None;
         }
-        let row = &self.runs[number * ROW_WORDS..][..ROW_WORDS];
-        Some(Run {
-            role: [Role::Initiator, Role::Responder, Role::Server][row[0] as usize - 1],
-            stage: [Stage::Opened, Stage::Authenticated, Stage::Done][row[1] as usize - 1],
-            a: row[2] as u8,
-            b: row[3] as u8,
-            k: row[4] as u8,
-            ts: row[5],
-            ta: row[6],
-        })
+        let row = self.runs.get(number * ROW_WORDS..(number + 1) * ROW_WORDS)?;
+        let role = match row[0] {
+            1 => Role::Initiator,
+            2 => Role::Responder,
+            3 => Role::Server,
+            _ => return None,
+        };
+        let stage = match row[1] {
+            1 => Stage::Opened,
+            2 => Stage::Authenticated,
+            3 => Stage::Done,
+            _ => return None,
+        };
+        let (a, b, k) = (row[2] as u8, row[3] as u8, row[4] as u8);
+        Some(Run { role, stage, a, b, k, ts: row[5], ta: row[6] })
     }
 
-    /// The entries of the replay cache.
+    /// The entries of the replay cache; none where there are fewer places.
     pub fn entries(&self) -> &[Entry] {
-        &self.cache[..self.realm.entries]
+        self.cache.get(..self.realm.entries).unwrap_or_default()
     }
 }
 

@@ -8,6 +8,7 @@ pub mod ending;
 pub mod expect;
 pub mod expression;
 pub mod faults;
+pub mod forms;
 pub mod json;
 pub mod listed;
 pub mod message;

@@ -1,6 +1,6 @@
-//! Messages as values without numbers, what each step takes and sends, and where
-//! a message stands in the engine's table. Only this file knows the forms of the
-//! exchange; numbers always come from the table.
+//! Messages as values without numbers, what each step sends, and where a message
+//! stands in the engine's table. What the steps take is in `forms`; nothing else
+//! knows the messages of the exchange. Numbers always come from the table.
 
 use std::collections::BTreeSet;
 
@@ -51,13 +51,6 @@ pub fn sent_by(step: u8, number: u8, run: &Run, nonce: u16) -> Vec<Message> {
         LEAK => vec![key()],
         _ => vec![],
     }
-}
-
-/// The nonce at the end of a request [a, b, N].
-pub fn nonce_of(tables: &Tables, request: u16) -> Option<u16> {
-    let second = tables.term(tables.term(request)?.r)?;
-    let nonce = tables.term(second.r)?;
-    (nonce.kind == NONCE).then_some(nonce.l)
 }
 
 impl Message {

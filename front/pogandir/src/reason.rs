@@ -2,43 +2,14 @@
 
 use std::collections::BTreeSet;
 
-use engine::{is_marked, Call, Header, Role, Run, Set, Stage, Tables, TERM_PLACES};
+use engine::{is_marked, Call, Header, Set, Tables, TERM_PLACES};
 
 use crate::answers::{role, stage};
-use crate::message::{missing, sent_by};
+use crate::forms;
+use crate::message::missing;
 use crate::notation::notation;
 use crate::vocabulary::*;
 use crate::walk::Walk;
-
-/// The part of a term that a path of operands, `l` or `r`, leads to.
-fn part(tables: &Tables, term: u16, path: &str) -> Option<u16> {
-    path.chars().try_fold(term, |term, side| {
-        let term = tables.term(term)?;
-        Some(if side == 'l' { term.l } else { term.r })
-    })
-}
-
-/// The number of an atom at a path: a time in full, else its operand.
-fn number(tables: &Tables, term: u16, path: &str) -> Option<u32> {
-    let term = tables.term(part(tables, term, path)?)?;
-    let low = if term.kind == TIME { term.r } else { return Some(term.l.into()) };
-    Some(u32::from(term.l) << 16 | u32::from(low))
-}
-
-/// Where the values stand in the messages that are taken.
-const TS_IN_REPLY: &str = "lrrl";
-const TS_IN_DELIVERY: &str = "llrr";
-const TA_IN_DELIVERY: &str = "rlr";
-const KEY_IN_DELIVERY: &str = "lll";
-
-/// Ts of the message of step 4 or 5, or the run's own for step 6.
-fn ts(tables: &Tables, step: u8, run: u8, m: u16) -> Option<u32> {
-    match step {
-        AUTHENTICATE => number(tables, m, TS_IN_REPLY),
-        ACCEPT => number(tables, m, TS_IN_DELIVERY),
-        _ => tables.run(run).map(|run| run.ts),
-    }
-}
 
 /// Why a header was refused.
 pub fn header(mark: &Mark, header: &Header) -> String {
@@ -50,8 +21,8 @@ pub fn header(mark: &Mark, header: &Header) -> String {
             format!("n is {n}, and under {} {LEAST_PRINCIPALS} to {most} is allowed", mark.letters)
         }),
         (header.flags & 1 == 1).then(|| "a flag on 0, the server".to_string()),
-        (above != 0)
-            .then(|| format!("a flag at {n} or above: principals are 0 to {}", n.max(1) - 1)),
+        (n > 0 && above != 0)
+            .then(|| format!("a flag at {n} or above: principals are 0 to {}", n - 1)),
         (header.ticket_life == 0).then(|| "Ls, the ticket's life, is 0".to_string()),
         (header.authenticator_life == 0).then(|| "La, the authenticator's life, is 0".to_string()),
     ];
@@ -102,7 +73,8 @@ fn no_principal(walk: &Walk, number: u32) -> String {
 
 fn full(tables: &Tables, needed: usize) -> String {
     let used = tables.realm.terms;
-    format!("{used} of {TERM_PLACES} terms are there, and {needed} more are needed")
+    let more = if needed == 1 { "1 more is".to_string() } else { format!("{needed} more are") };
+    format!("{used} of {TERM_PLACES} terms are there, and {more} needed")
 }
 
 fn step_refused(walk: &Walk, before: &Tables, call: Call, refusal: u8) -> Option<String> {
@@ -117,23 +89,26 @@ fn step_refused(walk: &Walk, before: &Tables, call: Call, refusal: u8) -> Option
         REFUSED_STAGE => wrong_stage(walk, before, step, run)?,
         REFUSED_CLOCK => format!("the clock is {clock}, and {t} is before it"),
         REFUSED_RUNS_FULL => format!("runs 0 to {} are there", realm.runs - 1),
-        REFUSED_FORM => wrong_form(walk, before, step, run)?,
+        REFUSED_FORM => {
+            let form = forms::form(&walk.names, step, run, before.run(run))?;
+            format!("the step takes {form}")
+        }
         REFUSED_UNDERIVABLE => format!("he lacks {}", lacks(walk, before, m)),
         REFUSED_TICKET => {
-            let ts = u64::from(ts(before, step, run, m)?);
+            let ts = u64::from(forms::ts(before, step, run, m)?);
             format!("Ts {ts} + Ls {ls} = {}, and the clock is {clock}", ts + ls)
         }
         REFUSED_AUTHENTICATOR => {
-            let ta = u64::from(number(before, m, TA_IN_DELIVERY)?);
+            let ta = u64::from(forms::key_and_ta(before, m)?.1);
             format!("Ta {ta} + La {la} = {}, and the clock is {clock}", ta + la)
         }
         REFUSED_AHEAD => {
-            let ta = number(before, m, TA_IN_DELIVERY)?;
+            let ta = forms::key_and_ta(before, m)?.1;
             format!("Ta is {ta}, and clock {clock} + La {la} = {}", u64::from(clock) + la)
         }
         REFUSED_REPLAY => replayed(walk, before, run, m)?,
         REFUSED_CACHE_FULL => cache_full(walk, before),
-        REFUSED_TERMS_FULL => full(before, terms_needed(before, call)?),
+        REFUSED_TERMS_FULL => full(before, missing(&forms::would_send(before, call)?, before)),
         _ => return None,
     })
 }
@@ -158,7 +133,7 @@ fn out_of_range(walk: &Walk, before: &Tables, call: Call) -> Option<String> {
         return Some(no_principal(walk, absent.into()));
     }
     if uses.contains(&"a") && (a == 0 || b == 0) {
-        return Some("the server, principal 0, opens no such run".to_string());
+        return Some("principal 0, the server, is neither a nor b of a run".to_string());
     }
     if uses.contains(&"a") && a == b {
         return Some(format!("a and b are both {}", walk.names.principal(a)));
@@ -170,31 +145,9 @@ fn out_of_range(walk: &Walk, before: &Tables, call: Call) -> Option<String> {
 }
 
 fn wrong_stage(walk: &Walk, before: &Tables, step: u8, run: u8) -> Option<String> {
-    let needed = match step {
-        AUTHENTICATE => "an initiator that was just opened",
-        ACCEPT => "a responder that was just opened",
-        FINISH => "an initiator that waits for the confirmation",
-        _ => "a server run",
-    };
-    let Run { role: its_role, stage: its_stage, .. } = before.run(run)?;
-    let is = format!("{}, {}", role(its_role), stage(its_stage));
-    Some(format!("step {step} needs {needed}; {} is: {is}", walk.names.run(run)))
-}
-
-fn wrong_form(walk: &Walk, before: &Tables, step: u8, run: u8) -> Option<String> {
-    let name = |principal| walk.names.principal(principal);
-    let form = match (step, before.run(run)) {
-        (ISSUE, _) => "[a, b, N], with a and b two principals and not the server".to_string(),
-        (AUTHENTICATE, Some(Run { a, b, .. })) => {
-            format!("{{K, {}, Ts, N{run}}}K({})", name(b), name(a))
-        }
-        (ACCEPT, Some(Run { a, b, .. })) => {
-            format!("[{{K, {0}, Ts}}K({1}), {{{0}, Ta}}K]", name(a), name(b))
-        }
-        (FINISH, Some(Run { k, ta, .. })) => format!("{{t{ta}}}k{k}"),
-        _ => return None,
-    };
-    Some(format!("the step takes {form}"))
+    let row = before.run(run)?;
+    let is = format!("{}, {}", role(row.role), stage(row.stage));
+    Some(format!("step {step} needs {}; {} is: {is}", forms::needs(step), walk.names.run(run)))
 }
 
 /// The least parts of a message that the intruder cannot derive.
@@ -228,9 +181,8 @@ fn least(
 
 fn replayed(walk: &Walk, before: &Tables, run: u8, m: u16) -> Option<String> {
     let b = before.run(run)?.b;
-    let k = number(before, m, KEY_IN_DELIVERY)?;
-    let ta = number(before, m, TA_IN_DELIVERY)?;
-    let entry = engine::Entry { b: b.into(), k: k as u16, ta };
+    let (k, ta) = forms::key_and_ta(before, m)?;
+    let entry = engine::Entry { b: b.into(), k: k.into(), ta };
     let place = before.entries().iter().position(|&other| other == entry)?;
     let record = walk.remembered(entry)?;
     let name = walk.names.principal(b);
@@ -249,30 +201,4 @@ fn cache_full(walk: &Walk, before: &Tables) -> String {
             format!("{} can forget some of them", names.join(", "))
         }
     }
-}
-
-/// How many terms a step that was refused for want of room would have added.
-fn terms_needed(before: &Tables, call: Call) -> Option<usize> {
-    let Call::Step { step, run, a, b, m, .. } = call else { return None };
-    let opened = before.realm.runs as u8;
-    let clock = before.realm.clock;
-    let new = |role, a, b, k| Run { role, stage: Stage::Opened, a, b, k, ts: clock, ta: 0 };
-    let (number, row, nonce) = match step {
-        INITIATE => (opened, new(Role::Initiator, a, b, 0), 0),
-        ISSUE => {
-            let of = |path| number(before, m, path);
-            let row = new(Role::Server, of("l")? as u8, of("rl")? as u8, opened);
-            (opened, row, of("rr")? as u16)
-        }
-        AUTHENTICATE => {
-            let key = number(before, m, "ll")? as u8;
-            (run, Run { k: key, ta: clock, ..before.run(run)? }, 0)
-        }
-        _ => {
-            let key = number(before, m, KEY_IN_DELIVERY)? as u8;
-            let ta = number(before, m, TA_IN_DELIVERY)?;
-            (run, Run { k: key, ta, ..before.run(run)? }, 0)
-        }
-    };
-    Some(missing(&sent_by(step, number, &row, nonce), before))
 }

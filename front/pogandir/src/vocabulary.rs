@@ -251,7 +251,7 @@ pub const REFUSED_CACHE_FULL: u8 = 19;
 pub const REFUSED_TERMS_FULL: u8 = 20;
 pub const REFUSED_ROOM: u8 = 21;
 
-/// In the order in which they are looked at, but for 10, which comes before all.
+/// In the order in which they are looked at.
 pub const REFUSALS: [Refusal; 19] = [
     refusal(REFUSED_TABLES, "the tables do not hold together"),
     refusal(REFUSED_FILE, "the file is over 65,536 bytes, or does not begin with a whole header"),

@@ -6,7 +6,8 @@ use std::collections::BTreeMap;
 use engine::{Answer, Call, Entry, Header, Role, Run, Set, Stage, Tables, WIRE_WORDS};
 
 use crate::answers;
-use crate::message::{nonce_of, sent_by};
+use crate::forms;
+use crate::message::sent_by;
 use crate::notation::Names;
 use crate::reason;
 use crate::vocabulary::{Step, ACCEPT, ISSUE, LEAK};
@@ -149,7 +150,7 @@ impl Walk {
             return Vec::new();
         };
         let run = self.tables.run(number).expect("the run is there");
-        let nonce = if step == ISSUE { nonce_of(&self.tables, m).unwrap_or(0) } else { 0 };
+        let nonce = if step == ISSUE { forms::nonce(&self.tables, m).unwrap_or(0) } else { 0 };
         let names = Step::of(step.into()).expect("an accepted step is in the table").sends;
         let messages = sent_by(step, number, &run, nonce);
         let sent = |(&name, message): (&&'static str, &crate::message::Message)| {

@@ -123,6 +123,7 @@ fn all_faults_are_told_at_once() {
 fn values_that_will_be_refused_are_warned_of() {
     let cases = [
         ("HD n=2 Ls=1 La=1", 2, "n is 2, and under HD 3 to 16 is allowed"),
+        ("HD n=0 flags=2 Ls=1 La=1", 2, "n is 0, and under HD 3 to 16 is allowed"),
         ("HD n=17 Ls=1 La=1", 2, "under HD 3 to 16"),
         ("HW n=33 Ls=1 La=1", 2, "under HW 3 to 32"),
         ("HD n=3 flags=1 Ls=1 La=1", 2, "a flag on 0, the server"),
