@@ -54,6 +54,12 @@ impl Listed {
             let line = &self.lines[record + 1];
             assert!(line.ends_with(&format!(" {answer}")), "{line} is not {answer}");
         }
+        let ended = usize::from(self.ended().is_some());
+        assert_eq!(self.lines.len(), 1 + walk.taken.len() + ended + 1, "a line a record, and one");
+        let realm = &walk.tables.realm;
+        let (runs, wire, cache) = (realm.runs, walk.tables.marks(), realm.entries);
+        let end = format!("end runs {runs} wire {wire} cache {cache} clock {}", realm.clock);
+        assert_eq!(self.lines.last(), Some(&end));
     }
 }
 
