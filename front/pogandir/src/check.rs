@@ -184,5 +184,7 @@ pub fn expecting(listed: &Listed, lines: &[String]) -> Vec<String> {
         Some((at, _)) if record > at => format!("{line} => any"),
         _ => answer(record).map_or(line.clone(), |answer| format!("{line} => {answer}")),
     };
-    lines.iter().enumerate().map(expected).collect()
+    let end = listed.lines.last().and_then(|line| line.strip_prefix("end "));
+    let end = end.map(|counts| format!("end => {counts}"));
+    lines.iter().enumerate().map(expected).chain(end).collect()
 }

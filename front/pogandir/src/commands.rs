@@ -7,6 +7,7 @@ use crate::check::{self, Verdict};
 use crate::faults::{Fault, Severity};
 use crate::json;
 use crate::listed::Listed;
+use crate::notation::Names;
 use crate::options::{Command, Options};
 use crate::plain;
 use crate::script::{self, Script};
@@ -62,7 +63,7 @@ pub fn run(options: &Options) -> u8 {
         Ok(status) => status,
         Err(error) if error.kind() == io::ErrorKind::BrokenPipe => FAILED,
         Err(error) => {
-            eprintln!("pogandir: {error}");
+            tell(&format!("pogandir: {error}"));
             FAILED
         }
     }
@@ -115,8 +116,13 @@ fn finish(options: &Options, mut output: Vec<u8>, good: usize, status: u8) -> io
     fs::write(path, &output).map_err(named)
 }
 
+/// A line on standard error, where somebody reads it.
+pub fn tell(line: &str) {
+    let _ = writeln!(io::stderr(), "{line}");
+}
+
 /// Writes the buffer to standard output and empties it.
-fn print(buffer: &mut Vec<u8>) -> io::Result<()> {
+pub fn print(buffer: &mut Vec<u8>) -> io::Result<()> {
     let mut out = io::stdout().lock();
     out.write_all(buffer).and_then(|()| out.flush())?;
     buffer.clear();
@@ -124,8 +130,12 @@ fn print(buffer: &mut Vec<u8>) -> io::Result<()> {
 }
 
 fn unread(options: &Options, path: &str, error: &io::Error) -> Made {
-    eprintln!("pogandir: {path}: {error}");
-    let fields = [("file", json::string(path)), ("failed", json::string(&error.to_string()))];
+    tell(&format!("pogandir: {path}: {error}"));
+    let fields = [
+        ("file", json::string(path)),
+        ("as_expected", "false".to_string()),
+        ("failed", json::string(&error.to_string())),
+    ];
     let output = if options.json { json::object(fields).into_bytes() } else { Vec::new() };
     Made { status: FAILED, output, faults: Vec::new() }
 }
@@ -133,7 +143,7 @@ fn unread(options: &Options, path: &str, error: &io::Error) -> Made {
 fn tell_faults(options: &Options, path: &str, faults: &[Fault]) {
     let name = if path == "-" { "standard input" } else { path };
     if !options.json {
-        faults.iter().for_each(|fault| eprintln!("{}", fault.at(name)));
+        faults.iter().for_each(|fault| tell(&fault.at(name)));
     }
 }
 
@@ -146,25 +156,29 @@ fn make(options: &Options, source: Source) -> Made {
     if let (Command::Bytes, Content::Walk(bytes)) = (options.command, &source.content) {
         return no_text(&name, bytes);
     }
+    let hint = hint(options, &source);
     let given = match source.content {
         Content::Walk(bytes) => Given::Walk(Listed::of_bytes(&name, bytes, options.names.clone())),
         Content::Text(text) => Given::Text(script::read(&name, &text)),
     };
     let mut faults = given.faults().to_vec();
-    if faults.iter().any(Fault::is_error) {
-        if name.ends_with(".walk") {
-            faults.push(read_as_text());
-        }
+    let is_faulty = faults.iter().any(Fault::is_error);
+    // a good text was meant as one
+    if is_faulty || matches!(given, Given::Walk(_)) || options.names != Names::default() {
+        faults.extend(hint);
+    }
+    if is_faulty {
+        let fields = vec![("as_expected", "false".to_string())];
         return Made {
             status: BAD_INPUT,
-            output: json_of(options, &name, &faults, vec![]),
+            output: json_of(options, &name, &faults, fields),
             faults,
         };
     }
     let (status, output) = match options.command {
         Command::List => (AS_EXPECTED, list(options, given.listed(), &faults)),
         Command::Check => checked(options, &given, &faults),
-        Command::Sheet => (AS_EXPECTED, sheet(options, given.listed())),
+        Command::Sheet => (AS_EXPECTED, sheet(options, given.listed(), &faults)),
         _ => (AS_EXPECTED, given.listed().bytes.clone()),
     };
     Made { status, output, faults }
@@ -209,9 +223,9 @@ fn checked(options: &Options, given: &Given, faults: &[Fault]) -> (u8, Vec<u8>) 
     (status, output)
 }
 
-fn sheet(options: &Options, listed: &Listed) -> Vec<u8> {
+fn sheet(options: &Options, listed: &Listed, faults: &[Fault]) -> Vec<u8> {
     let made = match (options.json, options.csv) {
-        (true, _) => sheet::json(listed),
+        (true, _) => sheet::json(listed, faults),
         (false, true) => sheet::csv(listed),
         (false, false) => sheet::html(listed),
     };
@@ -227,7 +241,8 @@ fn text(options: &Options, source: Source) -> Made {
             (if options.expect { check::expecting(&listed(), &lines) } else { lines }, Vec::new())
         }
         Content::Text(_) => {
-            let message = "this is a text already; `pogandir bytes` turns it into a walk file";
+            let message = "this is a text already; `pogandir bytes` turns it into a walk file, \
+                and --walk takes its characters as one";
             (Vec::new(), vec![fault_at_start(message.to_string())])
         }
     };
@@ -248,11 +263,23 @@ fn no_text(name: &str, bytes: &[u8]) -> Made {
     Made { status: BAD_INPUT, output: Vec::new(), faults: vec![fault_at_start(message)] }
 }
 
-/// For a walk file that is characters by chance.
-fn read_as_text() -> Fault {
-    let message =
-        "it has no bytes but characters, so it was read as a text; --walk reads it as a walk file";
-    Fault { severity: Severity::Warning, ..fault_at_start(message.to_string()) }
+/// What is said of an input that may have been meant as another.
+fn hint(options: &Options, source: &Source) -> Option<Fault> {
+    let message = match &source.content {
+        _ if options.form.is_some() => return None,
+        Content::Text(_) if options.names != Names::default() => {
+            "this is a text, which has its own names; --names is for walk files"
+        }
+        Content::Text(_) if source.name.ends_with(".walk") => {
+            "it has no bytes but characters, so it was read as a text; --walk reads it as a walk file"
+        }
+        Content::Walk(bytes) if is_utf16(bytes) => "this looks like a text in UTF-16; save it as UTF-8",
+        Content::Walk(bytes) if !bytes.starts_with(b"H") => {
+            "it has bytes that are no characters in UTF-8, so it was read as a walk file"
+        }
+        _ => return None,
+    };
+    Some(Fault { severity: Severity::Warning, ..fault_at_start(message.to_string()) })
 }
 
 fn fault_at_start(message: String) -> Fault {
@@ -273,13 +300,13 @@ impl Progress {
 
     fn show(&mut self, done: usize) {
         if self.shown {
-            eprint!("\r{done} of {} files", self.total);
+            let _ = write!(io::stderr(), "\r{done} of {} files", self.total);
         }
     }
 
     fn clear(&mut self) {
         if self.shown {
-            eprint!("\r\x1b[K");
+            let _ = write!(io::stderr(), "\r\x1b[K");
         }
     }
 }

@@ -12,8 +12,8 @@ pub struct Ending {
 
 /// Whether a line is `end =>` or `at the end =>`.
 pub fn is_ending(body: &[Token]) -> bool {
-    let words: Vec<&str> = body.iter().map(|token| token.text.as_str()).collect();
-    matches!(words[..], ["end"] | ["at", "the", "end"])
+    let words: Vec<String> = body.iter().map(|token| token.text.to_ascii_lowercase()).collect();
+    [&["end"][..], &["at", "the", "end"]].iter().any(|line| words == *line)
 }
 
 impl Ending {

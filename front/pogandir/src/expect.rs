@@ -5,6 +5,7 @@ use engine::Answer;
 
 use crate::answers;
 use crate::tokens::{number, wrong, Cursor, Wrong};
+use crate::vocabulary::Refusal;
 
 /// What came of a line's record.
 #[derive(Clone, Copy, Debug, PartialEq, Eq)]
@@ -64,11 +65,14 @@ pub fn read(mut cursor: Cursor) -> Result<Expected, Wrong> {
     let expected = match first.text.to_ascii_lowercase().as_str() {
         "any" => Expected::Any,
         "ok" => accepted(&mut cursor)?,
-        "refused" => Expected::Refused(optional(&mut cursor)),
+        "refused" => refused(&mut cursor)?,
         "new" => Expected::Term { number: None, new: true },
         "old" => Expected::Term { number: None, new: false },
         text => match number(text) {
-            Some(number) => numbered(&mut cursor, number as u32)?,
+            Some(number) => match u32::try_from(number) {
+                Ok(number) => numbered(&mut cursor, number)?,
+                Err(_) => return wrong(first.column, format!("{text} is too large")),
+            },
             None => {
                 return wrong(first.column, format!("'{text}' is no answer; allowed: {ALLOWED}"))
             }
@@ -79,17 +83,31 @@ pub fn read(mut cursor: Cursor) -> Result<Expected, Wrong> {
 }
 
 /// The next token as a number, if it is one.
-fn optional(cursor: &mut Cursor) -> Option<u32> {
-    let number = cursor.peek().and_then(number)?;
-    cursor.advance();
-    u32::try_from(number).ok()
+fn optional(cursor: &mut Cursor) -> Result<Option<u32>, Wrong> {
+    match cursor.peek().and_then(number) {
+        Some(_) => cursor.needs_number("the number", u32::MAX).map(Some),
+        None => Ok(None),
+    }
+}
+
+/// A number behind `refused` has to be one that there is.
+fn refused(cursor: &mut Cursor) -> Result<Expected, Wrong> {
+    let column = cursor.column();
+    let number = optional(cursor)?;
+    let is_one = |number: u32| u8::try_from(number).is_ok_and(|n| Refusal::of(n).is_some());
+    match number.filter(|&number| !is_one(number)) {
+        None => Ok(Expected::Refused(number)),
+        Some(other) => {
+            wrong(column, format!("there is no refusal {other}; docs/MODEL.md has them"))
+        }
+    }
 }
 
 fn accepted(cursor: &mut Cursor) -> Result<Expected, Wrong> {
     if cursor.takes("-") {
         return added(cursor).map(|added| Expected::Accepted { run: None, added });
     }
-    let run = optional(cursor);
+    let run = optional(cursor)?;
     added(cursor).map(|added| Expected::Accepted { run, added })
 }
 

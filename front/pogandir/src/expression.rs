@@ -8,7 +8,7 @@ use crate::notation::Meaning;
 use crate::script::Reader;
 use crate::sentence::{stop, Stop};
 use crate::tokens::{number, wrong, Cursor, Token, Wrong};
-use crate::vocabulary::{MOST_NONCE_OR_KEY, STEPS};
+use crate::vocabulary::{Refusal, MOST_NONCE_OR_KEY, STEPS};
 use crate::walk::Walk;
 
 /// Deeper than any message that a table of 512 terms holds.
@@ -51,7 +51,7 @@ fn enclosed(
 ) -> Result<Message, Stop> {
     let mut messages = vec![nested(reader, cursor, depth + 1)?];
     while cursor.takes(",") {
-        messages.push(nested(reader, cursor, depth + 1)?);
+        messages.push(nested(reader, cursor, depth + 1 + messages.len())?);
     }
     cursor.needs(close)?;
     Ok(list(messages))
@@ -202,9 +202,16 @@ pub fn meaning(reader: &Reader, name: &str, column: usize, wanted: &str) -> Resu
     if reader.faulty.contains(name) {
         return Err(Stop::Silent);
     }
+    if let Some((line, number)) = reader.unopened.get(name) {
+        let told = Refusal::told(*number);
+        let message = format!("'{name}' is no run: line {line} got refusal {number}, {told}");
+        return stop(column, message);
+    }
     let known: Vec<&str> = reader.meanings.keys().map(String::as_str).collect();
+    let other = known.iter().find(|other| other.eq_ignore_ascii_case(name));
+    let hint = other.map_or(String::new(), |other| format!(" ('{other}' is one)"));
     let known = if known.is_empty() { "none".to_string() } else { known.join(", ") };
-    stop(column, format!("'{name}' is not the name of {wanted}; names so far: {known}"))
+    stop(column, format!("'{name}' is not the name of {wanted}{hint}; names so far: {known}"))
 }
 
 /// A principal: a name, `server`, `p1` or `1`.
@@ -223,7 +230,8 @@ pub fn principal(reader: &Reader, cursor: &mut Cursor) -> Result<u8, Stop> {
     }
     match meaning(reader, text, *column, "a principal")? {
         Meaning::Principal(number) => Ok(number),
-        _ => stop(*column, format!("'{text}' is no principal")),
+        Meaning::Run(_) => stop(*column, format!("'{text}' is a run and no principal")),
+        Meaning::Message(_) => stop(*column, format!("'{text}' is a message and no principal")),
     }
 }
 
@@ -231,7 +239,7 @@ pub fn principal(reader: &Reader, cursor: &mut Cursor) -> Result<u8, Stop> {
 pub fn run(reader: &Reader, cursor: &mut Cursor) -> Result<u8, Stop> {
     let token = cursor.needs_any("a run")?;
     let Token { text, column } = token;
-    if text == "run" {
+    if text.eq_ignore_ascii_case("run") {
         let number = cursor.needs_number("the run's number", u8::MAX.into())?;
         let count = reader.walk(*column)?.tables.realm.runs;
         if number as usize >= count {
@@ -241,6 +249,7 @@ pub fn run(reader: &Reader, cursor: &mut Cursor) -> Result<u8, Stop> {
     }
     match meaning(reader, text, *column, "a run")? {
         Meaning::Run(number) => Ok(number),
-        _ => stop(*column, format!("'{text}' is no run")),
+        Meaning::Principal(_) => stop(*column, format!("'{text}' is a principal and no run")),
+        Meaning::Message(_) => stop(*column, format!("'{text}' is a message and no run")),
     }
 }

@@ -67,6 +67,10 @@ pub fn read(arguments: &[String]) -> Result<Request, String> {
     };
     let mut words = rest.iter();
     while let Some(word) = words.next() {
+        if word == "--" {
+            options.files.extend(words.cloned());
+            break;
+        }
         options.read_word(word, &mut words)?;
     }
     options.check()?;
@@ -116,6 +120,9 @@ impl Options {
         is_for(self.csv, "--csv", &[Command::Sheet])?;
         is_for(self.expect, "--expect", &[Command::Text])?;
         is_for(self.names != Names::default(), "--names", &[Command::Sheet])?;
+        if self.output.as_ref().is_some_and(|output| self.files.contains(output)) {
+            return Err("the output would take the place of an input".to_string());
+        }
         match self.files.len() {
             0 => Err("a file is expected; - is standard input".to_string()),
             1 => Ok(()),

@@ -23,26 +23,33 @@ pub fn realm(reader: &mut Reader, mut cursor: Cursor) -> Result<Done, Stop> {
     }
     let n = cursor.needs_number("the number of principals", u8::MAX.into())? as u8;
     cursor.needs("principals")?;
-    let mut header = Header {
-        mark: mark.unwrap_or_else(|| mark_for(n)).number(),
-        n,
-        flags: 0,
-        ticket_life: 0,
-        authenticator_life: 0,
-    };
+    let mut clauses = Clauses::default();
     while !cursor.is_done() {
         cursor.needs(",")?;
-        clause(reader, &mut cursor, &mut header)?;
+        clauses.read(reader, &mut cursor)?;
     }
-    for (life, what) in
-        [(header.ticket_life, "ticket life"), (header.authenticator_life, "authenticator life")]
-    {
-        if life == 0 {
-            return stop(column, format!("the realm needs its {what}, as in: {EXAMPLE}"));
-        }
-    }
-    Ok(reader.open(&header))
+    let life = |life: Option<u32>, what: &str| match life {
+        Some(life) => Ok(life),
+        None => stop(column, format!("the realm needs its {what}, as in: {EXAMPLE}")),
+    };
+    Ok(reader.open(&Header {
+        mark: mark.unwrap_or_else(|| mark_for(n)).number(),
+        n,
+        flags: clauses.flags.unwrap_or(0),
+        ticket_life: life(clauses.ticket_life, "ticket life")?,
+        authenticator_life: life(clauses.authenticator_life, "authenticator life")?,
+    }))
 }
+
+/// What the clauses behind the number of principals say.
+#[derive(Default)]
+struct Clauses {
+    ticket_life: Option<u32>,
+    authenticator_life: Option<u32>,
+    flags: Option<u32>,
+}
+
+const CLAUSES: &str = "ticket life 100, authenticator life 10, bad NAME and NAME";
 
 /// The first mark in the table that allows so many principals, or else the last.
 fn mark_for(n: u8) -> &'static Mark {
@@ -51,28 +58,45 @@ fn mark_for(n: u8) -> &'static Mark {
     marks.clone().find(allows).or_else(|| marks.next_back()).expect("there is a header")
 }
 
-fn clause(reader: &Reader, cursor: &mut Cursor, header: &mut Header) -> Result<(), Stop> {
-    if cursor.takes("ticket") {
-        cursor.needs("life")?;
-        header.ticket_life = cursor.needs_number("the ticket's life", u32::MAX)?;
-    } else if cursor.takes("authenticator") {
-        cursor.needs("life")?;
-        header.authenticator_life = cursor.needs_number("the authenticator's life", u32::MAX)?;
-    } else if cursor.takes("bad") {
-        loop {
-            let column = cursor.column();
-            let bad = principal(reader, cursor)?;
-            if bad >= 32 {
-                return stop(column, format!("principal {bad} is not there: flags go up to 31"));
-            }
-            header.flags |= 1 << bad;
-            if !(cursor.takes("and") || cursor.takes(",")) {
-                return Ok(());
-            }
+impl Clauses {
+    fn read(&mut self, reader: &Reader, cursor: &mut Cursor) -> Result<(), Stop> {
+        let column = cursor.column();
+        let (place, value) = if cursor.takes("ticket") {
+            cursor.needs("life")?;
+            (&mut self.ticket_life, cursor.needs_number("the ticket's life", u32::MAX)?)
+        } else if cursor.takes("authenticator") {
+            cursor.needs("life")?;
+            (
+                &mut self.authenticator_life,
+                cursor.needs_number("the authenticator's life", u32::MAX)?,
+            )
+        } else if cursor.takes("bad") {
+            (&mut self.flags, bad(reader, cursor)?)
+        } else {
+            return stop(column, format!("a clause of the realm is expected here: {CLAUSES}"));
+        };
+        match place.replace(value) {
+            None => Ok(()),
+            Some(_) => stop(column, "this clause stands twice"),
         }
-    } else {
-        let clauses = "ticket life 100, authenticator life 10, bad NAME and NAME";
-        return stop(cursor.column(), format!("a clause of the realm is expected here: {clauses}"));
     }
-    Ok(())
+}
+
+/// The flags of principals: `panel and heater`, or `panel, heater`.
+fn bad(reader: &Reader, cursor: &mut Cursor) -> Result<u32, Stop> {
+    let mut flags = 0;
+    loop {
+        let column = cursor.column();
+        let number = principal(reader, cursor)?;
+        if number >= 32 {
+            return stop(column, format!("principal {number} is not there: flags go up to 31"));
+        }
+        flags |= 1 << number;
+        let next_clause = cursor.second().is_some_and(|word| {
+            ["ticket", "authenticator", "bad"].contains(&word.to_ascii_lowercase().as_str())
+        });
+        if next_clause || !(cursor.takes("and") || cursor.takes(",")) {
+            return Ok(flags);
+        }
+    }
 }

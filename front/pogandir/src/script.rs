@@ -2,6 +2,7 @@
 //! sentence (`sentence`), with what is expected of it. The engine is asked as the
 //! lines are read, so every number that a name stands for is its answer.
 
+use std::cell::Cell;
 use std::collections::{BTreeMap, BTreeSet};
 
 use engine::{Call, Header};
@@ -70,8 +71,12 @@ pub struct Reader {
     pub meanings: BTreeMap<String, (Meaning, usize)>,
     /// Names that a line with a fault would have given.
     pub faulty: BTreeSet<String>,
+    /// Names of runs that did not open: the line, and its refusal.
+    pub unopened: BTreeMap<String, (usize, u8)>,
     pub ending: Option<Ending>,
     pub line: usize,
+    /// It has been told that there is no walk to speak of.
+    pub no_walk_told: Cell<bool>,
     bytes: Vec<u8>,
     records: usize,
     told: Vec<Told>,
@@ -85,16 +90,19 @@ pub fn read(name: &str, text: &str) -> Script {
         state: State::Start,
         meanings: BTreeMap::new(),
         faulty: BTreeSet::new(),
+        unopened: BTreeMap::new(),
         ending: None,
         line: 0,
+        no_walk_told: Cell::new(false),
         bytes: Vec::new(),
         records: 0,
         told: Vec::new(),
         faults: Vec::new(),
         too_long: false,
     };
-    // a byte order mark is no text; a line ends with or without a carriage return
-    for line in text.strip_prefix('\u{feff}').unwrap_or(text).split('\n') {
+    // a byte order mark is no text; a line ends with a newline, a carriage return or both
+    let text = text.strip_prefix('\u{feff}').unwrap_or(text).replace("\r\n", "\n");
+    for line in text.split(['\n', '\r']) {
         reader.line += 1;
         reader.read_line(line);
     }
@@ -146,13 +154,12 @@ impl Reader {
             Some(place) => (&tokens[..place], Some(&tokens[place + 1..])),
             None => (&tokens[..], None),
         };
-        if tokens.is_empty() {
-            return;
-        }
+        let Some(last) = tokens.last() else { return };
+        let end = last.column + last.text.chars().count();
         if is_ending(body) {
-            return self.read_ending(behind.unwrap_or_default());
+            return self.read_ending(Cursor::behind(end, behind.unwrap_or_default()));
         }
-        let expected = behind.map(|behind| expect::read(Cursor::new(behind)));
+        let expected = behind.map(|behind| expect::read(Cursor::behind(end, behind)));
         let expected = expected.transpose().unwrap_or_else(|wrong| {
             self.fault(Severity::Error, wrong);
             None
@@ -169,8 +176,14 @@ impl Reader {
         }
     }
 
-    fn read_ending(&mut self, behind: &[Token]) {
-        match Ending::read(self.line, Cursor::new(behind)) {
+    fn read_ending(&mut self, behind: Cursor) {
+        let column = behind.column();
+        match Ending::read(self.line, behind) {
+            Ok(_) if self.ending.is_some() => {
+                let line = self.ending.as_ref().map_or(0, |ending| ending.line);
+                let message = format!("the end is told already, in line {line}");
+                self.fault(Severity::Error, Wrong { column, message });
+            }
             Ok(ending) => self.ending = Some(ending),
             Err(wrong) => self.fault(Severity::Error, wrong),
         }
@@ -194,11 +207,15 @@ impl Reader {
     fn read_sentence(&mut self, cursor: Cursor) -> Result<Option<Done>, Vec<Wrong>> {
         let first = cursor.peek().unwrap_or_default().to_string();
         let names = cursor.second() == Some("=");
+        let is_realm = first.eq_ignore_ascii_case("realm");
         let stop = match sentence::perform(self, cursor) {
             Ok(done) => return Ok(done),
             Err(Stop::Refused(done)) => return Ok(Some(done)),
             Err(stop) => stop,
         };
+        if is_realm {
+            self.no_walk_told.set(true);
+        }
         // what the line would have named or sent is not told as missing again
         self.faulty.insert(if names { first } else { format!("{first}.") });
         match stop {
@@ -312,6 +329,7 @@ impl Script {
                 told.reason = Refusal::told(number);
             } else if told.record > record {
                 told.outcome = Outcome::Unread;
+                told.reason.clear();
             }
         }
     }

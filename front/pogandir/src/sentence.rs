@@ -5,7 +5,7 @@
 use engine::{Answer, Call, Role, Stage};
 
 use crate::expect::Outcome;
-use crate::expression::{atom, message, principal, run};
+use crate::expression::{atom, meaning, message, principal, run};
 use crate::message::Message;
 use crate::notation::Meaning;
 use crate::realm::{realm, EXAMPLE};
@@ -39,27 +39,31 @@ const SENTENCES: &str = "a line is a record (HD, HW, TM, ST, raw) or one of: rea
     clock 20, P forgets, leak RUN, intruder derives MESSAGE, term MESSAGE, NAME = MESSAGE, end => ..";
 
 /// Words that begin sentences or stand for something, and so are no names.
-const TAKEN: [&str; 18] = [
-    "server", "now", "realm", "clock", "leak", "term", "intruder", "run", "the", "end", "at", "K",
-    "k", "N", "Ts", "Ta", "raw", "key",
+const TAKEN: [&str; 13] = [
+    "server", "now", "realm", "clock", "leak", "term", "intruder", "run", "the", "end", "at",
+    "raw", "key",
 ];
 
+/// The same, with the capitals that they have.
+const LETTERS: [&str; 5] = ["K", "k", "N", "Ts", "Ta"];
+
 impl Reader {
-    /// The walk as far as it has come.
-    pub fn walk(&self, column: usize) -> Result<&Walk, Wrong> {
-        match &self.state {
-            State::Open(walk) => Ok(walk),
-            State::Start => {
-                wrong(column, format!("a walk begins with its realm, as in: {EXAMPLE}"))
+    /// The walk as far as it has come. That there is none is told once.
+    pub fn walk(&self, column: usize) -> Result<&Walk, Stop> {
+        let message = match &self.state {
+            State::Open(walk) => return Ok(walk),
+            State::Start => format!("a walk begins with its realm, as in: {EXAMPLE}"),
+            State::Ended(number) => {
+                format!("reading has ended with refusal {number}, {}", Refusal::told(*number))
             }
-            State::Ended(number) => wrong(
-                column,
-                format!("reading has ended with refusal {number}, {}", Refusal::told(*number)),
-            ),
             State::Raw => {
-                wrong(column, "raw bytes stand before this: which records there are cannot be said")
+                "raw bytes stand before this: which records there are cannot be said".to_string()
             }
+        };
+        if self.no_walk_told.replace(true) {
+            return Err(Stop::Silent);
         }
+        stop(column, message)
     }
 
     /// Whether a name can be given.
@@ -69,7 +73,9 @@ impl Reader {
             return wrong(*column, format!("'{text}' has a meaning already, from line {line}"));
         }
         let is_word = text.chars().all(|c| c.is_alphanumeric() || c == '_' || c == '-');
-        let is_taken = TAKEN.contains(&text.as_str()) || Mark::named(text).is_some();
+        let is_word_here = TAKEN.iter().any(|word| word.eq_ignore_ascii_case(text));
+        let is_taken =
+            is_word_here || LETTERS.contains(&text.as_str()) || Mark::named(text).is_some();
         if !is_word || is_taken || number(text).is_some() || atom(text, *column)?.is_some() {
             let allowed =
                 "letters, digits, - and _, no word of the language, not as t20, N0, k1, p1";
@@ -125,6 +131,9 @@ fn step(number: u8, run: u8, m: u16) -> Call {
 /// Performs a sentence; names and messages that are only named have no record.
 pub fn perform(reader: &mut Reader, mut cursor: Cursor) -> Result<Option<Done>, Stop> {
     let first = cursor.peek().expect("a line has a word").to_ascii_lowercase();
+    if first.starts_with('"') {
+        return stop(cursor.column(), "leave the quotation marks out");
+    }
     if cursor.second() == Some("=") {
         return naming(reader, cursor);
     }
@@ -148,7 +157,7 @@ pub fn perform(reader: &mut Reader, mut cursor: Cursor) -> Result<Option<Done>, 
 fn naming(reader: &mut Reader, mut cursor: Cursor) -> Result<Option<Done>, Stop> {
     let name = cursor.advance().expect("there is one");
     cursor.needs("=")?;
-    if cursor.peek().and_then(number).is_some() && is_number_alone(&cursor) {
+    if cursor.peek().and_then(number).is_some() && !cursor.second().is_some_and(opens_run) {
         return principals(reader, name, cursor);
     }
     reader.is_free(name)?;
@@ -156,12 +165,13 @@ fn naming(reader: &mut Reader, mut cursor: Cursor) -> Result<Option<Done>, Stop>
         let done = deed(reader, cursor)?;
         if let Outcome::Answered(Answer::Ok { run: Some(run), .. }) = done.outcome {
             reader.give(&name.text, Meaning::Run(run));
-        } else {
-            reader.faulty.insert(name.text.clone());
+        } else if let Some(number) = done.outcome.refusal() {
+            reader.unopened.insert(name.text.clone(), (reader.line, number));
         }
         return Ok(Some(done));
     }
     reader.walk(cursor.column())?;
+    no_verb(&cursor)?;
     let message = message(reader, &mut cursor)?;
     cursor.needs_end()?;
     let number = reader.add(&message)?;
@@ -169,13 +179,21 @@ fn naming(reader: &mut Reader, mut cursor: Cursor) -> Result<Option<Done>, Stop>
     Ok(None)
 }
 
+/// Two words behind a name are a sentence, and its verb is not known.
+fn no_verb(cursor: &Cursor) -> Result<(), Wrong> {
+    let is_word = |token: &str| token.chars().any(char::is_alphanumeric);
+    match (cursor.peek(), cursor.second()) {
+        (Some(first), Some(verb)) if is_word(first) && is_word(verb) && first != "term" => {
+            let known = "asks, waits for and answers open a run";
+            wrong(cursor.column(), format!("'{verb}' is no verb that stands here; {known}"))
+        }
+        _ => Ok(()),
+    }
+}
+
 /// Whether a verb is of a step that opens a run.
 fn opens_run(verb: &str) -> bool {
     ["asks", "waits", "answers"].contains(&verb.to_ascii_lowercase().as_str())
-}
-
-fn is_number_alone(cursor: &Cursor) -> bool {
-    matches!(cursor.second(), None | Some(","))
 }
 
 /// panel = 1, cabinet = 2
@@ -238,7 +256,7 @@ fn deed(reader: &mut Reader, mut cursor: Cursor) -> Result<Done, Stop> {
     let start = cursor.column();
     let subject = cursor.clone();
     cursor.advance();
-    if subject.peek() == Some("run") {
+    if subject.peek().is_some_and(|word| word.eq_ignore_ascii_case("run")) {
         cursor.advance();
     }
     let verb = cursor.advance().map_or(String::new(), |token| token.text.to_ascii_lowercase());
@@ -275,7 +293,7 @@ fn opens(
 
 /// The server answers a run's request, or any message.
 fn answers(reader: &mut Reader, subject: Cursor, mut cursor: Cursor) -> Result<Done, Stop> {
-    if subject.peek() != Some("server") {
+    if !subject.peek().is_some_and(|word| word.eq_ignore_ascii_case("server")) {
         return stop(subject.column(), "the server answers, nobody else");
     }
     let named = cursor.peek().and_then(|name| reader.meanings.get(name));
@@ -289,11 +307,24 @@ fn answers(reader: &mut Reader, subject: Cursor, mut cursor: Cursor) -> Result<D
                 |term| Ok(Message::Present(term)),
             )?
         }
-        _ => message(reader, &mut cursor)?,
+        _ => {
+            is_named(reader, &cursor)?;
+            message(reader, &mut cursor)?
+        }
     };
     cursor.needs_end()?;
     let m = reader.add(&message)?;
     Ok(reader.call(step(ISSUE, 0, m)))
+}
+
+/// A word by itself has to be the name of a run or a message.
+fn is_named(reader: &Reader, cursor: &Cursor) -> Result<(), Stop> {
+    let Some(name) = cursor.peek().filter(|_| cursor.second().is_none()) else { return Ok(()) };
+    let is_name = name.chars().all(|c| c.is_alphanumeric() || c == '_' || c == '-');
+    if is_name && name != "now" && atom(name, cursor.column())?.is_none() {
+        meaning(reader, name, cursor.column(), "a run or a message")?;
+    }
+    Ok(())
 }
 
 fn request(walk: &Walk, run: u8) -> Option<u16> {

@@ -57,7 +57,12 @@ pub struct Cursor<'a> {
 
 impl<'a> Cursor<'a> {
     pub fn new(tokens: &'a [Token]) -> Cursor<'a> {
-        let end = tokens.last().map_or(1, |last| last.column + last.text.chars().count());
+        Cursor::behind(1, tokens)
+    }
+
+    /// Of the tokens behind a column, of which there may be none.
+    pub fn behind(column: usize, tokens: &'a [Token]) -> Cursor<'a> {
+        let end = tokens.last().map_or(column, |last| last.column + last.text.chars().count());
         Cursor { tokens, end }
     }
 
@@ -126,7 +131,10 @@ impl<'a> Cursor<'a> {
     pub fn needs_end(&self) -> Result<(), Wrong> {
         match self.peek() {
             None => Ok(()),
-            Some(text) => wrong(self.column(), format!("'{text}' stands behind the line's end")),
+            Some(text) => wrong(
+                self.column(),
+                format!("'{text}' is not expected here: the line should end before it"),
+            ),
         }
     }
 

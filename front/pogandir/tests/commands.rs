@@ -123,7 +123,12 @@ fn words_and_bytes_turn_into_each_other() {
     // a recorded walk as a test of itself
     let expecting = pogandir(&["text", "--expect", &path], b"");
     assert!(out(&expecting).contains("ST 5 run=3 m=17 => refused 18\n"));
+    assert!(out(&expecting).ends_with("end => runs 4 wire 5 cache 1 clock 0\n"));
     assert_eq!(status(&pogandir(&["check", "-"], &expecting.stdout)), 0);
+    // with its last records cut off it no longer holds
+    let last = "ST 2 a=1 b=2 => ok 3 +0\nST 5 run=3 m=17 => refused 18\n";
+    let cut = out(&expecting).replace(last, "");
+    assert_eq!(status(&pogandir(&["check", "-"], cut.as_bytes())), 1);
 }
 
 /// An output file has all of it, and is not touched for an input that is bad.
@@ -159,6 +164,13 @@ fn what_is_not_expected_is_told_in_words() {
     assert!(err(&told).contains("this is a text already"), "{}", err(&told));
     let wide = file(&folder, "wide.txt", b"\xff\xfeH\0D\0");
     assert!(err(&pogandir(&["bytes", &wide], b"")).contains("UTF-16"));
+    for command in ["list", "check", "sheet"] {
+        assert!(err(&pogandir(&[command, &wide], b"")).contains("UTF-16"), "{command}");
+    }
+    let latin = file(&folder, "latin.names", b"# f\xfcr alle\nrealm 3 principals\n");
+    assert!(err(&pogandir(&["check", &latin], b"")).contains("no characters in UTF-8"));
+    let named = pogandir(&["sheet", "--names", "a=1", &example("case-f.names")], b"");
+    assert!(err(&named).contains("--names is for walk files"));
     let noise = file(&folder, "noise", b"\0\x01\x02");
     assert!(err(&pogandir(&["bytes", &noise], b"")).contains("no characters"));
     let short = file(&folder, "short.walk", b"H");
@@ -170,7 +182,7 @@ fn what_is_not_expected_is_told_in_words() {
 
 #[test]
 fn the_command_line_is_told_in_words() {
-    let cases: [(&[&str], &str); 8] = [
+    let cases: [(&[&str], &str); 9] = [
         (&[], "a command is expected: list, check, sheet, text, bytes"),
         (&["lst"], "'lst' is no command"),
         (&["list"], "a file is expected; - is standard input"),
@@ -179,6 +191,7 @@ fn the_command_line_is_told_in_words() {
         (&["list", "--csv", "a"], "--csv is for sheet"),
         (&["sheet", "--names", "panel", "a"], "'panel' is not of the form name=number"),
         (&["list", "a", "-o"], "-o needs a value"),
+        (&["sheet", "a", "-o", "a"], "the output would take the place of an input"),
     ];
     for (arguments, message) in cases {
         let told = pogandir(arguments, b"");
@@ -243,6 +256,10 @@ fn json_is_json() {
     let bad = file(&folder, "ba\"d\\.txt", "HD n=3 Ls=1 La=1\nST 7 \"q\"=0\n\tterm [\n");
     let missing = folder.join("missing").to_str().unwrap().to_string();
     let good = example("leaked-key.names");
+    let warned = file(&folder, "warned.txt", "HD n=2 Ls=1 La=1\n");
+    let sheet = out(&pogandir(&["sheet", "--json", &warned], b""));
+    assert_eq!(json_value(&sheet).trim(), "", "{sheet}");
+    assert!(sheet.contains("\"severity\": \"warning\""), "{sheet}");
     for command in ["list", "check"] {
         let made = pogandir(&[command, "--json", &good, &bad, &missing], b"");
         assert_eq!(status(&made), 3);
@@ -251,6 +268,7 @@ fn json_is_json() {
     }
     let made = pogandir(&["check", "--json", &bad], b"");
     assert_eq!((status(&made), err(&made)), (2, String::new()));
+    assert!(out(&made).contains("\"as_expected\": false"), "{}", out(&made));
     assert!(
         out(&made).contains("\"line\": 2, \"column\": 6, \"severity\": \"error\""),
         "{}",
@@ -258,4 +276,23 @@ fn json_is_json() {
     );
     let one = out(&pogandir(&["list", "--json", &example("case-d.walk")], b""));
     assert!(one.contains("\"listing\": [\"0 HD ok\", \"1 ST ok - +0\""), "{one}");
+}
+
+/// Nobody has to read what is told.
+#[test]
+fn closed_outputs_end_it_with_a_status() {
+    let program = env!("CARGO_BIN_EXE_pogandir");
+    let folder = folder("closed");
+    let bad = file(&folder, "bad.txt", "ST q\n".repeat(5000));
+    let scripts = [
+        (format!("{program} --help > /dev/full"), 3),
+        (format!("{program} --version > /dev/full"), 3),
+        (format!("{program} check {bad} 2> /dev/full"), 2),
+        (format!("{program} check $(printf '\\377')"), 2),
+        (format!("{program} list -- {}", example("case-f.walk")), 0),
+    ];
+    for (script, expected) in scripts {
+        let done = Command::new("sh").args(["-c", &script]).output().unwrap();
+        assert_eq!(status(&done), expected, "{script}: {}", err(&done));
+    }
 }

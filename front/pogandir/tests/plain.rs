@@ -54,6 +54,7 @@ fn texts_have_their_bytes() {
         ("ST 7 t=4294967295", "53 54 07 00 00 00 00 00 ff ff ff ff".to_string()),
         ("raw 48 44 Ff", "48 44 ff".to_string()),
         ("ST 9\r\nraw 00\r\n", format!("53 54 09{} 00", zeros(9))),
+        ("ST 9\rraw 00\r", format!("53 54 09{} 00", zeros(9))),
         // what people write
         ("\u{feff}HD n=3 flags=0 Ls=100 La=10", header.to_string()),
         ("HD N = 3 FLAGS= 0 LS =100 la=10", header.to_string()),
@@ -166,6 +167,7 @@ fn a_text_that_is_too_long_is_warned_of_where_it_becomes_so() {
     let [warning] = &script.faults[..] else { panic!("{:?}", script.faults) };
     assert_eq!(warning.line, 1 + 9361);
     assert_eq!(script.listed.lines, ["0 file refused 1"]);
+    assert!(script.told[1..].iter().all(|told| told.reason.is_empty()));
     assert_eq!(read("text", &text[..text.len() - "TM 0 L=1\n".len()]).faults, []);
 }
 

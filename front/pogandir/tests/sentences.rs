@@ -100,6 +100,14 @@ fn sentences_have_their_records() {
     }
 }
 
+/// Capitals do not matter in the words of sentences.
+#[test]
+fn capitals_do_not_matter() {
+    let text = "R = panel ASKS cabinet\nS = Server Answers R\nRun 0 Takes S.reply\nCLOCK 3\nLeak S\nEnd => clock 3";
+    let made = records(text);
+    assert_eq!(made, ["ST 1 a=1 b=2", "ST 3 m=4", "ST 4 run=0 m=11", "ST 7 t=3", "ST 9 run=1"]);
+}
+
 #[test]
 fn realms_have_their_headers() {
     let lives = "ticket life 7, authenticator life 8";
@@ -112,6 +120,12 @@ fn realms_have_their_headers() {
             format!("x = 2\nrealm 4 principals, {lives}, bad x and p3"),
             "HD n=4 flags=0x000c Ls=7 La=8",
         ),
+        (format!("realm 4 principals, bad 1, 2, {lives}"), "HD n=4 flags=0x0006 Ls=7 La=8"),
+        (
+            "realm 3 principals, ticket life 0, authenticator life 1".to_string(),
+            "HD n=3 flags=0 Ls=0 La=1",
+        ),
+        (format!("realm 3 principals, {lives}, ticket life 8"), ""),
         ("Realm 4 Principals, bad 1, 2".to_string(), ""),
     ];
     for (text, expected) in cases {
@@ -207,9 +221,25 @@ fn faults_name_their_place_and_what_is_allowed() {
             "'panl' is not the name of a principal; names so far: cabinet, panel",
         ),
         ("panel asks", 11, "a principal is expected here"),
-        ("panel asks cabinet now", 20, "'now' stands behind the line's end"),
+        ("panel asks cabinet now", 20, "'now' is not expected here: the line should end before it"),
         ("r0 takes t0", 1, "'r0' is not the name of a run"),
-        ("panel takes t0", 1, "'panel' is no run"),
+        ("panel takes t0", 1, "'panel' is a principal and no run"),
+        ("Panel asks cabinet", 1, "'Panel' is not the name of a principal ('panel' is one)"),
+        (
+            "r0 = panel ask cabinet",
+            6,
+            "'ask' is no verb that stands here; asks, waits for and answers",
+        ),
+        ("s0 = server answers r0", 21, "'r0' is not the name of a run or a message"),
+        ("x = 3 y = 4", 7, "',' is expected here, and not 'y'"),
+        ("Clock = 5", 1, "'Clock' cannot be a name"),
+        ("term k(panel)", 8, "'panel' is a principal and no run"),
+        ("\"panel asks cabinet\"", 1, "leave the quotation marks out"),
+        ("clock 5 =>", 11, "what is expected (ok, refused"),
+        ("clock 5 => refused 77", 20, "there is no refusal 77"),
+        ("clock 5 => refused 4294967311", 20, "too large"),
+        ("clock 5 => 4294967304 new", 12, "too large"),
+        ("clock 5 => ok 4294967300", 15, "too large"),
         ("panel = 3", 1, "'panel' has a meaning already, from line 2"),
         ("t20 = panel asks cabinet", 1, "'t20' cannot be a name"),
         ("clock = 5", 1, "'clock' cannot be a name"),
@@ -260,6 +290,36 @@ fn runs_tell_only_what_they_hold() {
     assert_eq!(errors(&format!("{start}{held}")), []);
 }
 
+/// A line about a run that was not opened is not passed over.
+#[test]
+fn runs_that_did_not_open_are_told() {
+    let errors = errors("r0 = panel asks panel => refused 6\nr0 takes t0 => refused 11\nleak r0");
+    assert_eq!(errors.len(), 2, "{errors:?}");
+    assert!(errors[0].2.starts_with("'r0' is no run: line 3 got refusal 6, "), "{errors:?}");
+    let again =
+        "r0 = panel asks panel => refused 6\nr0 = panel asks cabinet\nterm r0.request => old";
+    holds(&format!("{REALM}{again}"));
+}
+
+/// What the end tells is said once.
+#[test]
+fn two_ends_are_one_too_many() {
+    let errors = errors("end => cache 99\nend => clock 0");
+    assert_eq!(errors, [(2, 8, "the end is told already, in line 3".to_string())]);
+}
+
+/// A realm that cannot be read is told, and the lines behind it are not.
+#[test]
+fn a_realm_with_a_fault_is_told_once() {
+    let lines = "r0 = panel asks cabinet\nclock 5\npanel forgets\n";
+    for realm in ["realm 3 principals ticket life 1", "realm 3 principals, ticket life 1"] {
+        let script = read("text", &format!("panel = 1, cabinet = 2\n{realm}\n{lines}"));
+        assert_eq!(script.faults.len(), 1, "{:?}", script.faults);
+    }
+    let refused = read("text", &format!("panel = 1, cabinet = 2\nHD n=2 Ls=1 La=1\n{lines}"));
+    assert_eq!(refused.faults.iter().filter(|fault| fault.is_error()).count(), 1);
+}
+
 #[test]
 fn a_fault_is_told_once() {
     let text = "r0 = panel aks cabinet\ns0 = server answers r0\nr0 takes s0.reply\n\
@@ -278,15 +338,18 @@ fn sentences_need_a_walk_that_is_read() {
     assert_eq!(message.listed.bytes, []);
     let refused = read("text", "HD n=2 Ls=1 La=1\nclock 5");
     assert!(refused.faults[1].message.contains("reading has ended with refusal 2"));
-    let raw = read("text", "HD n=3 Ls=1 La=1\nraw 00\nclock 5");
+    let raw = read("text", "HD n=3 Ls=1 La=1\nraw 00\nclock 5\nclock 6");
+    assert_eq!(raw.faults.len(), 1, "told once");
     assert!(raw.faults[0].message.contains("raw bytes stand before this"));
 }
 
 /// Brackets without end are told, and do not fill the stack.
 #[test]
 fn a_message_that_is_too_deep_is_told() {
-    let errors = errors(&format!("term {}", "[".repeat(100_000)));
-    assert!(errors[0].2.contains("deeper than a table of 512 terms holds"), "{errors:?}");
+    for message in ["[".repeat(100_000), format!("[{}t0]", "t0, ".repeat(100_000))] {
+        let errors = errors(&format!("term {message}"));
+        assert!(errors[0].2.contains("deeper than a table of 512 terms holds"), "{errors:?}");
+    }
 }
 
 /// Shared parts: 2^400 leaves, and neither the walk nor its notation takes long.

@@ -145,7 +145,7 @@ fn csv_tells_its_encoding_where_it_is_not_ascii() {
 #[test]
 fn json_has_the_rows() {
     for listed in all() {
-        let json = sheet::json(listed);
+        let json = sheet::json(listed, &[]);
         let objects: Vec<&str> = json.lines().filter(|line| line.starts_with("{\"rec")).collect();
         assert_eq!(objects.len(), lines(listed).len());
         for (object, row) in objects.iter().zip(rows(listed)) {

@@ -1,6 +1,7 @@
 //! The columns of the CSV file and of the JSON text: one list for both.
 
 use super::rows::{Change, Noted, Row};
+use crate::faults::Fault;
 use crate::json;
 use crate::walk::Acceptance;
 
@@ -77,9 +78,13 @@ fn runs(row: &Row) -> Cell {
 }
 
 /// The name of the walk's file and its rows, a row a line.
-pub fn json(name: &str, rows: &[Row]) -> String {
+pub fn json(name: &str, rows: &[Row], faults: &[Fault]) -> String {
     let rows: Vec<String> = rows.iter().map(object).collect();
-    format!("{{\"file\": {}, \"rows\": [\n{}\n]}}\n", json::string(name), rows.join(",\n"))
+    json::object([
+        ("file", json::string(name)),
+        ("rows", format!("[\n{}\n]", rows.join(",\n"))),
+        ("faults", json::array(faults.iter().map(Fault::json))),
+    ])
 }
 
 fn object(row: &Row) -> String {

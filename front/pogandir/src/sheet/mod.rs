@@ -15,6 +15,7 @@ mod table;
 mod terms;
 mod words;
 
+use crate::faults::Fault;
 use crate::listed::Listed;
 
 pub use chart::FOLDED_FROM;
@@ -29,7 +30,7 @@ pub fn csv(listed: &Listed) -> String {
     csv::file(&rows::rows(listed))
 }
 
-/// The rows as JSON.
-pub fn json(listed: &Listed) -> String {
-    cells::json(&listed.name, &rows::rows(listed))
+/// The rows as JSON, with what is wrong with the text that they are from.
+pub fn json(listed: &Listed, faults: &[Fault]) -> String {
+    cells::json(&listed.name, &rows::rows(listed), faults)
 }
