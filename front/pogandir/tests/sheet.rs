@@ -103,7 +103,7 @@ fn the_program_writes_the_sheet() {
     };
     assert_eq!(output(&["--csv"]), sheet::csv(&example("case-f.walk")));
     let json = output(&["--json"]);
-    assert!(json.starts_with("[{\"file\": \"") && json.ends_with("]}\n]\n"));
+    assert!(json.starts_with("[{\"file\": \"") && json.ends_with("\"faults\": []}]\n"));
     assert_eq!(output(&[]), sheet::html(&example("case-f.walk")));
 }
 
