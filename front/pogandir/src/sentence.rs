@@ -34,9 +34,9 @@ impl From<Wrong> for Stop {
     }
 }
 
-const SENTENCES: &str = "a line is a record (HD, HW, TM, ST, raw) or one of: realm .., NAME = 1, \
-    NAME = P asks Q, NAME = Q waits for P, NAME = server answers RUN, RUN takes MESSAGE, \
-    clock 20, P forgets, leak RUN, intruder derives MESSAGE, term MESSAGE, NAME = MESSAGE, end => ..";
+const SENTENCES: &str = "realm .., NAME = 1, NAME = P asks Q, NAME = Q waits for P, \
+    NAME = server answers RUN, RUN takes MESSAGE, clock 20, P forgets, leak RUN, \
+    intruder derives MESSAGE, term MESSAGE, NAME = MESSAGE, end => ..";
 
 /// Words that begin sentences or stand for something, and so are no names.
 const TAKEN: [&str; 13] = [
@@ -262,7 +262,9 @@ fn deed(reader: &mut Reader, mut cursor: Cursor) -> Result<Done, Stop> {
     let verb = cursor.advance().map_or(String::new(), |token| token.text.to_ascii_lowercase());
     let verb = verb.as_str();
     if !["asks", "waits", "answers", "forgets", "takes"].contains(&verb) {
-        return stop(start, format!("this is no sentence; {SENTENCES}"));
+        let marks = Mark::all();
+        let allowed = format!("a line is a record ({marks}, raw) or one of: {SENTENCES}");
+        return stop(start, format!("this is no sentence; {allowed}"));
     }
     reader.walk(start)?;
     match verb {

@@ -152,18 +152,22 @@ impl Kind {
 #[derive(Clone, Copy, Debug, PartialEq, Eq)]
 pub struct Step {
     pub number: u8,
-    pub name: &'static str,
     pub uses: &'static [&'static str],
     pub takes: Option<&'static str>,
     pub sends: &'static [&'static str],
 }
 
+/// An initiator asks the server, a responder waits, the server answers.
 pub const INITIATE: u8 = 1;
 pub const RESPOND: u8 = 2;
 pub const ISSUE: u8 = 3;
+/// An initiator takes the reply, a responder the delivery, an initiator the
+/// confirmation.
 pub const AUTHENTICATE: u8 = 4;
 pub const ACCEPT: u8 = 5;
 pub const FINISH: u8 = 6;
+/// The clock is set, a responder forgets, a server's key leaks, and whether the
+/// intruder can derive a message.
 pub const TICK: u8 = 7;
 pub const PURGE: u8 = 8;
 pub const LEAK: u8 = 9;
@@ -171,37 +175,24 @@ pub const QUERY: u8 = 10;
 
 const fn step(
     number: u8,
-    name: &'static str,
     uses: &'static [&'static str],
     takes: Option<&'static str>,
     sends: &'static [&'static str],
 ) -> Step {
-    Step { number, name, uses, takes, sends }
+    Step { number, uses, takes, sends }
 }
 
 pub const STEPS: [Step; 10] = [
-    step(INITIATE, "an initiator asks the server", &["a", "b"], None, &["request"]),
-    step(RESPOND, "a responder waits", &["a", "b"], None, &[]),
-    step(ISSUE, "the server answers", &["m"], Some("request"), &["reply", "ticket"]),
-    step(
-        AUTHENTICATE,
-        "an initiator takes the reply",
-        &["run", "m"],
-        Some("reply"),
-        &["authenticator"],
-    ),
-    step(
-        ACCEPT,
-        "a responder takes ticket and authenticator",
-        &["run", "m"],
-        Some("delivery"),
-        &["confirmation"],
-    ),
-    step(FINISH, "an initiator takes the confirmation", &["run", "m"], Some("confirmation"), &[]),
-    step(TICK, "the clock is set", &["t"], None, &[]),
-    step(PURGE, "a responder forgets", &["b"], None, &[]),
-    step(LEAK, "a server's key leaks", &["run"], None, &["key"]),
-    step(QUERY, "can the intruder derive this", &["m"], Some("message"), &[]),
+    step(INITIATE, &["a", "b"], None, &["request"]),
+    step(RESPOND, &["a", "b"], None, &[]),
+    step(ISSUE, &["m"], Some("request"), &["reply", "ticket"]),
+    step(AUTHENTICATE, &["run", "m"], Some("reply"), &["authenticator"]),
+    step(ACCEPT, &["run", "m"], Some("delivery"), &["confirmation"]),
+    step(FINISH, &["run", "m"], Some("confirmation"), &[]),
+    step(TICK, &["t"], None, &[]),
+    step(PURGE, &["b"], None, &[]),
+    step(LEAK, &["run"], None, &["key"]),
+    step(QUERY, &["m"], Some("message"), &[]),
 ];
 
 impl Step {
