@@ -12,7 +12,7 @@ use crate::options::{Command, Options};
 use crate::plain;
 use crate::script::{self, Script};
 use crate::sheet;
-use crate::source::{is_utf16, load, Content, Source};
+use crate::source::{has_header_mark, is_utf16, load, Content, Source};
 
 /// Exit statuses. Of many files the highest counts.
 pub const AS_EXPECTED: u8 = 0;
@@ -255,7 +255,7 @@ fn text(options: &Options, source: Source) -> Made {
 fn no_text(name: &str, bytes: &[u8]) -> Made {
     let message = match bytes {
         _ if is_utf16(bytes) => "this is a text in UTF-16; save it as UTF-8".to_string(),
-        [b'H', ..] => {
+        _ if has_header_mark(bytes) => {
             format!("this is a walk file and no text; `pogandir text {name}` writes it in words")
         }
         _ => "this is no text: it has bytes that are no characters".to_string(),
@@ -274,7 +274,7 @@ fn hint(options: &Options, source: &Source) -> Option<Fault> {
             "it has no bytes but characters, so it was read as a text; --walk reads it as a walk file"
         }
         Content::Walk(bytes) if is_utf16(bytes) => "this looks like a text in UTF-16; save it as UTF-8",
-        Content::Walk(bytes) if !bytes.starts_with(b"H") => {
+        Content::Walk(bytes) if !has_header_mark(bytes) => {
             "it has bytes that are no characters in UTF-8, so it was read as a walk file"
         }
         _ => return None,

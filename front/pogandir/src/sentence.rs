@@ -72,11 +72,10 @@ impl Reader {
         if let Some((_, line)) = self.meanings.get(text) {
             return wrong(*column, format!("'{text}' has a meaning already, from line {line}"));
         }
-        let is_word = text.chars().all(|c| c.is_alphanumeric() || c == '_' || c == '-');
         let is_word_here = TAKEN.iter().any(|word| word.eq_ignore_ascii_case(text));
         let is_taken =
             is_word_here || LETTERS.contains(&text.as_str()) || Mark::named(text).is_some();
-        if !is_word || is_taken || number(text).is_some() || atom(text, *column)?.is_some() {
+        if !is_name(text) || is_taken || number(text).is_some() || atom(text, *column)?.is_some() {
             let allowed =
                 "letters, digits, - and _, no word of the language, not as t20, N0, k1, p1";
             return wrong(*column, format!("'{text}' cannot be a name; allowed: {allowed}"));
@@ -319,11 +318,15 @@ fn answers(reader: &mut Reader, subject: Cursor, mut cursor: Cursor) -> Result<D
     Ok(reader.call(step(ISSUE, 0, m)))
 }
 
+/// Whether a word has the form of a name.
+fn is_name(word: &str) -> bool {
+    word.chars().all(|c| c.is_alphanumeric() || c == '_' || c == '-')
+}
+
 /// A word by itself has to be the name of a run or a message.
 fn is_named(reader: &Reader, cursor: &Cursor) -> Result<(), Stop> {
     let Some(name) = cursor.peek().filter(|_| cursor.second().is_none()) else { return Ok(()) };
-    let is_name = name.chars().all(|c| c.is_alphanumeric() || c == '_' || c == '-');
-    if is_name && name != "now" && atom(name, cursor.column())?.is_none() {
+    if is_name(name) && name != "now" && atom(name, cursor.column())?.is_none() {
         meaning(reader, name, cursor.column(), "a run or a message")?;
     }
     Ok(())

@@ -4,6 +4,8 @@
 use std::fs;
 use std::io::{self, Read};
 
+use crate::vocabulary::MARKS;
+
 #[derive(Clone, Debug, PartialEq, Eq)]
 pub enum Content {
     Walk(Vec<u8>),
@@ -55,6 +57,11 @@ fn form_of(bytes: &[u8]) -> Form {
         Ok(text) if text.chars().all(is_plain) => Form::Text,
         _ => Form::Walk,
     }
+}
+
+/// Whether bytes begin with a header's mark.
+pub fn has_header_mark(bytes: &[u8]) -> bool {
+    MARKS.iter().any(|mark| mark.is_header() && bytes.starts_with(mark.letters.as_bytes()))
 }
 
 /// Whether bytes begin as texts do that are not in UTF-8.
