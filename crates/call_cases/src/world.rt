@@ -26,6 +26,7 @@ pub fn new() -> World {
     World {
         realm: Realm {
             n: 0,
+            rules: 0,
             flags: 0,
             ls: 0,
             la: 0,

@@ -18,8 +18,9 @@ use Rattle.traces.specs.Realm.{Realm}
 use Rattle.traces.specs.RuleSets.{Reading}
 use Rattle.traces.specs.Terms.{messageFrom}
 use Rattle.kerberos.specs.Log.{Event, Act, clock}
-use Rattle.kerberos.specs.Messages.{parallel}
+use Rattle.exchange.specs.Forms.{formOf}
 use Rattle.kerberos.specs.Rules.{Takes}
+use Rattle.realm.specs.Opening.{header}
 use Rattle.realm.specs.Check.{together}
 use Rattle.realm.specs.Tables.{Tables, Together}
 use Rattle.effects.specs.Apply.{Outcome, refuse}
@@ -58,7 +59,7 @@ module _ (t : Tables) (c : Call) (w : Together t) where
 pub query-kept : (t : Tables) → Together t → (r a b m now : ℕ) → lentCall t (Step 10 r a b m now) .tables ≡ t
 query-kept t w r a b m now = same-tables t (Step 10 r a b m now) w ∙ simulation.query-kept t w r a b m now
 
-pub leak-kept : (t : Tables) → Together t → (r a b m now : ℕ) → valuesOf t .wire (key (session r)) → lentCall t (Step 9 r a b m now) .tables ≡ t
+pub leak-kept : (t : Tables) → Together t → (r a b m now : ℕ) → valuesOf (header (t .realm)) t .wire (key (session r)) → lentCall t (Step 9 r a b m now) .tables ≡ t
 leak-kept t w r a b m now k = same-tables t (Step 9 r a b m now) w ∙ simulation.leak-kept t w r a b m now k
 
 -- ---- what is accepted
@@ -68,16 +69,16 @@ module _ {R : Realm} {t : Tables} {ρ : Reading Event} (f : Follows R t ρ) wher
   accepted-exact c size =
       subst (λ (a : Answer). (accepts a ≡ true) ↔ Takable R ρ c) (sym (same-answer t c (f .together))) (simulation.accepted-exact R t ρ f c size)
 
-  pub step-answer : (step r a b m now : ℕ) {act : Act} → Takes parallel R (ρ .terms) (ρ .log) (Step step r a b m now) act
+  pub step-answer : (step r a b m now : ℕ) {act : Act} → Takes (formOf (R .rules)) R (ρ .terms) (ρ .log) (Step step r a b m now) act
       → lentCall t (Step step r a b m now) .answer ≡ stepTold (ρ .terms) act
   step-answer step r a b m now k = same-answer t (Step step r a b m now) (f .together) ∙ simulation.step-answer R t ρ f step r a b m now k
 
-  pub term-answer : (kind x y : ℕ) → Sized (Term kind x y) → {act : Act} {m : Message} → Takes parallel R (ρ .terms) (ρ .log) (Term kind x y) act
+  pub term-answer : (kind x y : ℕ) → Sized (Term kind x y) → {act : Act} {m : Message} → Takes (formOf (R .rules)) R (ρ .terms) (ρ .log) (Term kind x y) act
       → messageFrom (ρ .terms) kind x y ≡ some m → lentCall t (Term kind x y) .answer ≡ termTold 0 (ρ .terms) m
   term-answer kind x y size k made = same-answer t (Term kind x y) (f .together) ∙ simulation.term-answer R t ρ f kind x y size k made
 
-  pub terms-grow : (c : Call) → Sized c → GrowsBy ρ c (lentCall t c .answer)
-  terms-grow c size = subst (GrowsBy ρ c) (sym (same-answer t c (f .together))) (simulation.terms-grow R t ρ f c size)
+  pub terms-grow : (c : Call) → Sized c → GrowsBy R ρ c (lentCall t c .answer)
+  terms-grow c size = subst (GrowsBy R ρ c) (sym (same-answer t c (f .together))) (simulation.terms-grow R t ρ f c size)
 
   pub underivable-exact : (step r a b m now : ℕ) → let answer = lentCall t (Step step r a b m now) .answer in (answer ≡ Refused 15) ↔ Barred R ρ step m answer
   underivable-exact step r a b m now =

@@ -20,11 +20,11 @@ use Rattle.traces.specs.Conditions.{Delivers}
 use Rattle.traces.specs.Realm as exchange
 use Rattle.traces.specs.RuleSets.{Reading}
 use Rattle.kerberos.specs.Log.{Event, Act, idle}
-use Rattle.kerberos.specs.Messages.{parallel}
+use Rattle.exchange.specs.Forms.{formOf}
 use Rattle.kerberos.specs.Rules.{Takes, takes10}
 use Rattle.realm.specs.declared.header.Realm.{Realm}
-use Rattle.realm.specs.Header.{passes-fits}
-use Rattle.realm.specs.Opening.{headerFits}
+use Rattle.realm.specs.Header.{is-realm}
+use Rattle.realm.specs.Opening.{realmFits}
 use Rattle.realm.specs.Tables.{Tables, Together}
 use Rattle.simulation.specs.Back.{brings}
 use Rattle.simulation.specs.Engine.{Follows}
@@ -35,9 +35,9 @@ use Rattle.calls.specs.Lent.{lentCall}
 
 -- ---- definitions
 
--- 10 for "a header value as in 2", looked at first; else what the tables give
+-- 10 for "a header value as in 2" and for "naming no such set", looked at first; else what the tables give
 unfoldable pub knownOf : Realm → (ts ws out : List ℕ) → ℕ × List ℕ
-knownOf h ts ws out = cond (headerFits 32 (h .n) (h .flags) (h .ls) (h .la)) (derivedOf (h .n) (h .flags) ts (h .terms) ws out) (10, out)
+knownOf h ts ws out = cond (realmFits h) (derivedOf (h .n) (h .flags) ts (h .terms) ws out) (10, out)
 
 -- the same of tables of a realm
 abbrev pub knownIn : Tables → (out : List ℕ) → ℕ × List ℕ
@@ -46,13 +46,13 @@ knownIn t out = knownOf (t .realm) (t .terms) (t .wire) out
 -- ---- by the way out
 
 module _ (h : Realm) (ts ws out : List ℕ) where
-  pub header-misfit : headerFits 32 (h .n) (h .flags) (h .ls) (h .la) ≡ false → (10, out) ≡ knownOf h ts ws out
+  pub realm-misfit : realmFits h ≡ false → (10, out) ≡ knownOf h ts ws out
   unfolding knownOf
-  header-misfit e = rw e
+  realm-misfit e = rw e
 
-  pub header-fit : headerFits 32 (h .n) (h .flags) (h .ls) (h .la) ≡ true → derivedOf (h .n) (h .flags) ts (h .terms) ws out ≡ knownOf h ts ws out
+  pub realm-fit : realmFits h ≡ true → derivedOf (h .n) (h .flags) ts (h .terms) ws out ≡ knownOf h ts ws out
   unfolding knownOf
-  header-fit e = rw e
+  realm-fit e = rw e
 
 -- ---- what the set says
 
@@ -62,8 +62,8 @@ module _ (h : Realm) (ts ws out : List ℕ) (given : knownOf h ts ws out .0 ≡ 
       → (marked (knownOf h ts ws out .1) i ≡ true) ↔ ((i < h .terms) × Derivable (h .n) (h .flags) ts (h .terms) ws i)
   unfolding knownOf
   known-exact fit i =
-      let f = cond-answered (headerFits 32 (h .n) (h .flags) (h .ls) (h .la)) (derivedOf (h .n) (h .flags) ts (h .terms) ws out) (10, out) (λ e. omega arith) given in
-      let same = ap (λ (x : ℕ × List ℕ). marked (x .1) i) (header-fit h ts ws out (f .0)) in
+      let f = cond-answered (realmFits h) (derivedOf (h .n) (h .flags) ts (h .terms) ws out) (10, out) (λ e. omega arith) given in
+      let same = ap (λ (x : ℕ × List ℕ). marked (x .1) i) (realm-fit h ts ws out (f .0)) in
       let exact = derived-exact (h .n) (h .flags) ts (h .terms) ws out (f .1) fit i in
       (λ e. exact .0 (same ∙ e), λ p. sym same ∙ exact .1 p)
 
@@ -72,14 +72,14 @@ pub known-given : (t : Tables) → Together t → (out : List ℕ) → length ou
 known-given t w out eight =
     let h = t .realm in
     ap (λ (x : ℕ × List ℕ). x .0)
-    (sym (header-fit h (t .terms) (t .wire) out (passes-fits 32 (h .n) (h .flags) (h .ls) (h .la) (w .header-fits .most) (w .header-fits)))
+    (sym (realm-fit h (t .terms) (t .wire) out (is-realm h (w .header-fits) (w .rules-known)))
     ∙ derived-all (h .n) (h .flags) (t .terms) (h .terms) (t .wire) out
     (are-held (h .n) (t .terms) (h .terms) (t .wire) (w .terms-hold) (w .wire-words .len) (w .wire-within)) eight)
 
 -- ---- tables that follow a reading
 
 -- a query that is taken is of a term that the intruder can deliver
-query-delivers : {R : exchange.Realm} {ρ : Reading Event} {i : ℕ} {act : Act} → Takes parallel R (ρ .terms) (ρ .log) (Step 10 0 0 0 i 0) act
+query-delivers : {R : exchange.Realm} {ρ : Reading Event} {i : ℕ} {act : Act} → Takes (formOf (R .rules)) R (ρ .terms) (ρ .log) (Step 10 0 0 0 i 0) act
     → (x : Message) × Delivers R (ρ .terms) (ρ .log) i x
 query-delivers (takes10 {x = x} d) = (x, d)
 

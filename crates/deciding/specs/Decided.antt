@@ -13,7 +13,7 @@ use Rattle.decisions.specs.Laws.Fits.{EffectFits}
 
 pub record Writable (t : Tables) (x : Effect) (words : List ℕ) (r : Prepared) : Type 0 where
   pub fits : EffectFits t x
-  pub plan : PlanFor (t .terms) (t .realm .terms) (messagesOf (x .sends)) words r
+  pub plan : PlanFor (t .terms) (t .realm .terms) (messagesOf (t .terms) (x .sends)) words r
   pub room : t .realm .terms + r .count ≤ 512
 
 -- a step that is refused has nothing to write

@@ -9,17 +9,18 @@ use mathlib.Core.List.{List, [], _∷_}
 use lib.Dec.{ltb, leb, eqb}
 use lib.ListN.{getD}
 use Rattle.terms.specs.Meaning.{messageAt}
+use Rattle.terms.specs.Number.{numberIn, termsOf}
 use Rattle.sending.specs.Send.{fitsIn}
 use Rattle.exchange.specs.declared.run.Role.{Role}
 use Rattle.exchange.specs.declared.run.Role.the-variants.{Initiator, Responder}
 use Rattle.exchange.specs.declared.run.Row.{Row}
 use Rattle.exchange.specs.declared.run.Stage.the-variants.{Opened}
+use Rattle.exchange.specs.Forms.{formOf}
 use Rattle.exchange.specs.Needs.{needOf, meets}
-use Rattle.forms.specs.Forms.{requestIn, replyIn, confirmationIn}
+use Rattle.forms.specs.Forms.{requestIn, confirmationIn}
+use Rattle.forms.specs.Grant.{Granted, Is, Other, grantIn}
 use Rattle.forms.specs.declared.Confirmation.{Confirmation}
 use Rattle.forms.specs.declared.Confirmation.the-variants as confirmations
-use Rattle.forms.specs.declared.Reply.{Reply}
-use Rattle.forms.specs.declared.Reply.the-variants as replies
 use Rattle.forms.specs.declared.Request.{Request}
 use Rattle.forms.specs.declared.Request.the-variants as requests
 use Rattle.forms.specs.Delivery.{deliveryIn}
@@ -53,20 +54,22 @@ module _ (h : Realm) (ts ws : List ℕ) where
   abbrev pub onRequest : ℕ → Request → Verdict
   onRequest m requests.Other = Refused 14
   onRequest m (requests.Is a b n) =
-      need (not (eqb a 0) && not (eqb b 0) && not (eqb a b)) 14 (need (derivableAt h ts ws m) 15 (Takes (issuing (h .clock) (h .runs) a b n)))
+      need (not (eqb a 0) && not (eqb b 0) && not (eqb a b)) 14 (need (derivableAt h ts ws m) 15 (Takes (issuing (h .clock) (formOf (h .rules)) (h .runs) a b n)))
 
   unfoldable pub issues : ℕ → Verdict
   issues m = need (roomForRun h) 13 (onRequest m (requestIn (messageAt ts m)))
 
-  -- "4 | m is {K, b, Ts, own nonce} under a's key; Ta becomes the clock"; a and b are the run's
-  abbrev pub onReply : (r : ℕ) → Row → ℕ → Reply → Verdict
-  onReply r own m replies.Other = Refused 14
-  onReply r own m (replies.Is k b ts′ n a) =
+  -- "4 | m is {K, b, Ts, own nonce} under a's key; Ta becomes the clock", or what the form has in its place; a and b are the run's,
+  -- and "any term X" is handed on by its number
+  abbrev pub onGrant : (r : ℕ) → Row → ℕ → Granted → Verdict
+  onGrant r own m Other = Refused 14
+  onGrant r own m (Is k b ts′ n a x) =
       need (eqb b (own .b) && eqb n r && eqb a (own .a)) 14
-      (need (derivableAt h ts ws m) 15 (need (ticketLives h ts′) 16 (Takes (authenticating (h .clock) r (own .a) (own .b) k ts′))))
+      (need (derivableAt h ts ws m) 15 (need (ticketLives h ts′) 16
+      (Takes (authenticating (h .clock) (formOf (h .rules)) r (own .a) (own .b) k ts′ (numberIn (termsOf ts (h .terms)) x)))))
 
   unfoldable pub authenticates : (r : ℕ) → Row → ℕ → Verdict
-  authenticates r own m = onReply r own m (replyIn (messageAt ts m))
+  authenticates r own m = onGrant r own m (grantIn (formOf (h .rules)) (messageAt ts m))
 
   -- "5 | m is the pair of {K, a, Ts} under b's key and {a, Ta}K"; a and b are the run's
   abbrev pub onDelivery : List Entry → (r : ℕ) → Row → ℕ → Delivery → Verdict
@@ -135,7 +138,7 @@ decided t s = need (eqb (inputRefusal (t .realm) s) 0) (inputRefusal (t .realm) 
 -- "20 | the new terms do not all fit", after all else
 abbrev pub roomed : Tables → Verdict → Verdict
 roomed t (Refused number) = Refused number
-roomed t (Takes x) = need (fitsIn (t .terms) (t .realm .terms) (messagesOf (x .sends))) 20 (Takes x)
+roomed t (Takes x) = need (fitsIn (t .terms) (t .realm .terms) (messagesOf (t .terms) (x .sends))) 20 (Takes x)
 
 -- all refusals of a step, in their order
 unfoldable pub decision : Tables → Step → Verdict

@@ -3,30 +3,32 @@
 -- Assumes nothing.
 use Prim.Native.Nat.{ℕ}
 use mathlib.Core.List.{List, [], _∷_}
+use Rattle.terms.specs.Meaning.{messageAt}
 use Rattle.terms.specs.Message.{session, Message, key}
 use Rattle.exchange.specs.declared.run.Role.{Role}
 use Rattle.exchange.specs.declared.run.Role.the-variants.{Initiator, Responder, Server}
 use Rattle.exchange.specs.declared.run.Stage.{Stage}
 use Rattle.exchange.specs.declared.run.Stage.the-variants.{Opened, Authenticated, Done}
-use Rattle.kerberos.specs.Messages.{parallel, request, issue, authenticator, confirmation}
+use Rattle.exchange.specs.declared.form.Form.{Form}
+use Rattle.kerberos.specs.Messages.{request, issue, presented, confirmation}
 use Rattle.decisions.specs.declared.Change.the-variants as changes
 use Rattle.decisions.specs.declared.Keeping.{Keeping}
 use Rattle.decisions.specs.declared.Keeping.the-variants.{Same, Remember, Forget}
 use Rattle.decisions.specs.declared.Sends.{Sends}
-use Rattle.decisions.specs.declared.Sends.the-variants.{Request, Issue, Authenticator, Confirmation, Key}
+use Rattle.decisions.specs.declared.Sends.the-variants.{Request, Issue, Presented, Confirmation, Key}
 use Rattle.decisions.specs.declared.Sends.the-variants as sending
 use Rattle.exchange.specs.declared.call.Names.{Names}
 use Rattle.exchange.specs.declared.call.Names.the-variants.{Run, Nobody}
 use Rattle.decisions.specs.declared.Effect.{Effect}
 
--- the messages, in the order of sending
-abbrev pub messagesOf : Sends → List Message
-messagesOf sending.Nothing = []
-messagesOf (Request a b n) = request a b n ∷ []
-messagesOf (Issue k a b ts n) = issue parallel k a b ts n
-messagesOf (Authenticator a ta k) = authenticator a ta k ∷ []
-messagesOf (Confirmation ta k) = confirmation ta k ∷ []
-messagesOf (Key k) = key (session k) ∷ []
+-- the messages, in the order of sending; a term that is passed on is one of the table's
+abbrev pub messagesOf : (terms : List ℕ) → Sends → List Message
+messagesOf terms sending.Nothing = []
+messagesOf terms (Request a b n) = request a b n ∷ []
+messagesOf terms (Issue f k a b ts n) = issue f k a b ts n
+messagesOf terms (Presented f a ta k x) = presented f a ta k (messageAt terms x)
+messagesOf terms (Confirmation ta k) = confirmation ta k ∷ []
+messagesOf terms (Key k) = key (session k) ∷ []
 
 -- ---- a run, r, is opened, goes on, or is left as it is
 
@@ -64,13 +66,14 @@ module _ (clock : ℕ) where
   abbrev pub responds : (r a b : ℕ) → Effect
   responds r a b = opening Responder Opened r a b 0 0 sending.Nothing
 
-  -- "3 | opens server run r; K is session key r, Ts the clock; sends {K, b, Ts, N} under a's key, then {K, a, Ts} under b's key"
-  abbrev pub issuing : (r a b n : ℕ) → Effect
-  issuing r a b n = opening Server Done r a b r clock (Issue r a b clock n)
+  -- "3 | opens server run r; K is session key r, Ts the clock; sends {K, b, Ts, N} under a's key, then {K, a, Ts} under b's key", or
+  -- what the form has in its place
+  abbrev pub issuing : Form → (r a b n : ℕ) → Effect
+  issuing f r a b n = opening Server Done r a b r clock (Issue f r a b clock n)
 
-  -- "4 | Ta becomes the clock; sends {a, Ta}K"
-  abbrev pub authenticating : (r a b k ts : ℕ) → Effect
-  authenticating r a b k ts = advancing Initiator Authenticated r a b k ts clock Same (Authenticator a clock k)
+  -- "4 | Ta becomes the clock; sends {a, Ta}K", or what the form has in its place, X being term x
+  abbrev pub authenticating : Form → (r a b k ts x : ℕ) → Effect
+  authenticating f r a b k ts x = advancing Initiator Authenticated r a b k ts clock Same (Presented f a clock k x)
 
   -- "5 | remembers b, K, Ta; sends {Ta}K"
   abbrev pub accepting : (r a b k ts ta : ℕ) → Effect

@@ -1,5 +1,7 @@
 -- The decision turned round: what a step that is taken has met (Took, Verdict), that one that has met it is taken (Exact) and that
--- its effect is such as the tables can hold (Fits); which refusals a step can have (Refusals), and when it has 15 (Underivable).
+-- its effect is such as the tables can hold (Fits, by Forms), a part of a term being a term (Parts); which refusals a step can have (Refusals), and when it has 15 (Underivable).
+pub mod Parts
+pub mod Forms
 pub mod Took
 pub mod Verdict
 pub mod Exact

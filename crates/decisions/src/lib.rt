@@ -1,6 +1,7 @@
 // What a step comes to, by value: what the tables do, or the number of the refusal. A decision is made where its values are known
 // and carries all that is written, so whoever writes it goes through no steps.
 use exchange::call::Names;
+use exchange::form::Form;
 use exchange::run::Row;
 use replay::entry::Entry;
 
@@ -18,7 +19,7 @@ pub enum Keeping {
     Forget(u16),
 }
 
-// The messages that are sent, by their layout.
+// The messages that are sent, those of steps 3 and 4 by the form.
 pub enum Sends {
     Nothing,
     Request {
@@ -27,16 +28,20 @@ pub enum Sends {
         n: u16,
     },
     Issue {
+        form: Form,
         k: u16,
         a: u16,
         b: u16,
         ts: u32,
         n: u16,
     },
-    Authenticator {
+    // term x is passed on with the authenticator
+    Presented {
+        form: Form,
         a: u16,
         ta: u32,
         k: u16,
+        x: u16,
     },
     Confirmation {
         ta: u32,

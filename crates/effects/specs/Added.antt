@@ -37,7 +37,7 @@ module _ (t : Tables) (w : Together t) where
   unfolding applied
   by-verdict (Takes x) =
       let xs : List ℕ = termsOf (t .terms) (t .realm .terms) in
-      omega (arith, longer-all xs (messagesOf (x .sends)) .more, terms-length (w .terms-hold))
+      omega (arith, longer-all xs (messagesOf (t .terms) (x .sends)) .more, terms-length (w .terms-hold))
   by-verdict (Refused k) = omega arith
 
   pub added-counted : (c : Call) → called t c .tables .realm .terms ≡ t .realm .terms + addedBy (called t c .answer)

@@ -34,7 +34,7 @@ refuse t number = record { answer = Refused number; tables = t }
 
 abbrev pub realmAfter : Realm → (clock terms runs entries : ℕ) → Realm
 realmAfter h clock terms runs entries =
-    record { n = h .n; flags = h .flags; ls = h .ls; la = h .la; clock = clock; terms = terms; runs = runs; entries = entries }
+    record { n = h .n; rules = h .rules; flags = h .flags; ls = h .ls; la = h .la; clock = clock; terms = terms; runs = runs; entries = entries }
 
 -- with these terms and this wire: "an accepted ST line ends in `+` and the number of terms added"
 abbrev pub appliedWith : Tables → Effect → (count : ℕ) (ts ws : List ℕ) → Outcome
@@ -49,6 +49,6 @@ appliedWith t x count ts ws =
 -- "When a step needs a message, its terms are added", and "'Sends' puts the term on the wire"
 unfoldable pub applied : Tables → Effect → Outcome
 applied t x =
-    let ms = messagesOf (x .sends) in
+    let ms = messagesOf (t .terms) (x .sends) in
     let xs = enteredAll (termsOf (t .terms) (t .realm .terms)) ms in
     appliedWith t x (length xs) (over xs (t .terms)) (markedAll (t .wire) xs ms)

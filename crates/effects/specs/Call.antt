@@ -24,7 +24,7 @@ use Rattle.effects.specs.Apply.{Outcome, refuse, applied}
 
 abbrev pub withCount : Realm → ℕ → Realm
 withCount h terms =
-    record { n = h .n; flags = h .flags; ls = h .ls; la = h .la; clock = h .clock; terms = terms; runs = h .runs; entries = h .entries }
+    record { n = h .n; rules = h .rules; flags = h .flags; ls = h .ls; la = h .la; clock = h .clock; terms = terms; runs = h .runs; entries = h .entries }
 
 -- "Adding a term must tell whether the term is new or was present": whether the table has grown
 abbrev pub numbered : terms.TermAnswer → (grown : ℕ) → Answer

@@ -47,8 +47,8 @@ module _ (t : Tables) (w : Together t) where
   by-verdict (Refused k) = record { n = refl; flags = refl; more = omega arith; agree = λ k h. refl }
   by-verdict (Takes x) =
       let old = termsOf (t .terms) (t .realm .terms) in
-      let xs = enteredAll old (messagesOf (x .sends)) in
-      let longer = longer-all old (messagesOf (x .sends)) in
+      let xs = enteredAll old (messagesOf (t .terms) (x .sends)) in
+      let longer = longer-all old (messagesOf (t .terms) (x .sends)) in
       let size = terms-length (w .terms-hold) in
       record {
         n = refl;

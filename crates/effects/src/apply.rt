@@ -45,6 +45,7 @@ pub fn apply(
     After {
         realm: Realm {
             n: h.n,
+            rules: h.rules,
             flags: h.flags,
             ls: h.ls,
             la: h.la,

@@ -1,5 +1,6 @@
--- The header marks (document 02, change 2): "a header mark HW, laid out as HD but with 32 bits of flags; under it n is 3 to 32".
--- A constant table, a row for each mark: its two letters, the bits of its flags, and the most principals.
+-- The header marks (document 02, changes 2 and 6): "a header mark HW, laid out as HD but with 32 bits of flags; under it n is 3 to
+-- 32"; "two rule sets, named by header marks H5 and H4 with the layout and limits of HW, and keep the old one under HD and HW".
+-- A constant table, a row for each mark: its two letters, the bits of its flags, the most principals, and its rule set's number.
 -- Assumes nothing.
 use Prim.Native.Nat.{ℕ, _^_, _<_}
 use mathlib.Core.Bool.{cond}
@@ -12,13 +13,19 @@ use Rattle.exchange.specs.declared.header.Lookup.{Lookup}
 use Rattle.exchange.specs.declared.header.Lookup.the-variants.{Found, Missing}
 
 abbrev pub hd : Format
-hd = record { mark = 0x4844; flags = Bits16; most = 16 }
+hd = record { mark = 0x4844; flags = Bits16; most = 16; rules = 0 }
 
 abbrev pub hw : Format
-hw = record { mark = 0x4857; flags = Bits32; most = 32 }
+hw = record { mark = 0x4857; flags = Bits32; most = 32; rules = 0 }
+
+abbrev pub h5 : Format
+h5 = record { mark = 0x4835; flags = Bits32; most = 32; rules = 1 }
+
+abbrev pub h4 : Format
+h4 = record { mark = 0x4834; flags = Bits32; most = 32; rules = 2 }
 
 unfoldable pub formats : List Format
-formats = hd ∷ hw ∷ []
+formats = hd ∷ hw ∷ h5 ∷ h4 ∷ []
 
 -- the first row of a mark
 unfoldable pub rowOf : (mark : ℕ) → List Format → Lookup

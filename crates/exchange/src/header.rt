@@ -30,24 +30,42 @@ pub struct Format {
     pub flags: Flags,
     // principals at most, the server among them
     pub most: u8,
+    // the rule set that it names
+    pub rules: u8,
 }
 
 const HD: Format = Format {
     mark: 0x4844,
     flags: Flags::Bits16,
     most: 16,
+    rules: 0,
 };
 
 const HW: Format = Format {
     mark: 0x4857,
     flags: Flags::Bits32,
     most: 32,
+    rules: 0,
 };
 
-const MARKS: usize = 2;
+const H5: Format = Format {
+    mark: 0x4835,
+    flags: Flags::Bits32,
+    most: 32,
+    rules: 1,
+};
+
+const H4: Format = Format {
+    mark: 0x4834,
+    flags: Flags::Bits32,
+    most: 32,
+    rules: 2,
+};
+
+const MARKS: usize = 4;
 
 // A row for each mark.
-const FORMATS: [Format; MARKS] = [HD, HW];
+const FORMATS: [Format; MARKS] = [HD, HW, H5, H4];
 
 pub enum Lookup {
     Found(Format),

@@ -30,7 +30,7 @@ use Rattle.exported.specs.declared.Reply.{Reply}
 
 -- a realm of zeros
 abbrev pub noRealm : Realm
-noRealm = record { n = 0; flags = 0; ls = 0; la = 0; clock = 0; terms = 0; runs = 0; entries = 0 }
+noRealm = record { n = 0; rules = 0; flags = 0; ls = 0; la = 0; clock = 0; terms = 0; runs = 0; entries = 0 }
 
 -- the realm and 0, or a realm of zeros and the refusal's number
 abbrev pub openedAs : Opening → Opened

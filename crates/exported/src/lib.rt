@@ -36,6 +36,7 @@ pub struct Opened {
 // A realm of zeros: it has no principals, so no tables hold together with it.
 const NO_REALM: Realm = Realm {
     n: 0,
+    rules: 0,
     flags: 0,
     ls: 0,
     la: 0,

@@ -1,4 +1,4 @@
--- The forms of the messages that steps 3, 4 and 6 take (document 01, "Steps"), each a chain of layers in the order in which the
+-- The forms of the messages that steps 3 and 6 take (document 01, "Steps"), each a chain of layers in the order in which the
 -- code takes it apart, and the answer. "Lists in braces are nested pairs as in brackets. K is always of kind 4, Ts and Ta of
 -- kind 1." Values that a step compares with its run's own are answered as they are, and so are the a and b of a request,
 -- which step 3 itself finds "unequal and not 0".
@@ -7,11 +7,9 @@ pub mod Laws
 use mathlib.Core.Option.{Option, none, some}
 use Prim.Native.Nat.{ℕ}
 use Rattle.terms.specs.Message.{Message}
-use Rattle.layers.specs.Layers.{PRINCIPAL, TIME, NONCE, LONG_TERM_KEY, SESSION_KEY, atom, first, under, _▸_}
+use Rattle.layers.specs.Layers.{PRINCIPAL, TIME, NONCE, SESSION_KEY, atom, first, under, _▸_}
 use Rattle.forms.specs.declared.Confirmation.{Confirmation}
 use Rattle.forms.specs.declared.Confirmation.the-variants as confirmations
-use Rattle.forms.specs.declared.Reply.{Reply}
-use Rattle.forms.specs.declared.Reply.the-variants as replies
 use Rattle.forms.specs.declared.Request.{Request}
 use Rattle.forms.specs.declared.Request.the-variants as requests
 
@@ -25,17 +23,6 @@ requestOf (some (a, (b, n))) = requests.Is a b n
 
 unfoldable pub requestIn : Message → Request
 requestIn m = requestOf (requestForm m)
-
--- step 4: "m is {K, b, Ts, own nonce} under a's key"
-abbrev pub replyForm : Message → Option (ℕ × (ℕ × (ℕ × (ℕ × ℕ))))
-replyForm = under LONG_TERM_KEY ▸ first SESSION_KEY ▸ first PRINCIPAL ▸ first TIME ▸ atom NONCE
-
-abbrev pub replyOf : Option (ℕ × (ℕ × (ℕ × (ℕ × ℕ)))) → Reply
-replyOf none = replies.Other
-replyOf (some (a, (k, (b, (ts, n))))) = replies.Is k b ts n a
-
-unfoldable pub replyIn : Message → Reply
-replyIn m = replyOf (replyForm m)
 
 -- step 6: "m is {Ta}K"
 abbrev pub confirmationForm : Message → Option (ℕ × ℕ)

@@ -1,7 +1,9 @@
 // The messages that steps 3 to 6 take, taken apart from the outside in. The first layer that does not fit ends it with
 // `Other`, which the step that asked turns into refusal 14. Tests of a value against the run's own are the steps'.
+use exchange::form::Form;
 use layers::Opened;
 use layers::OpenedTime;
+use layers::nonce_first;
 use layers::principal_first;
 use layers::session_key_first;
 use layers::term_at;
@@ -11,9 +13,11 @@ use layers::under_session_key;
 use words::Term;
 ghost use mathlib.Core.Path.{_≡_};
 ghost use Rattle.terms.specs.Meaning.{messageAt};
+ghost use Rattle.layers.specs.Layers.{NONCE, first};
 ghost use Rattle.layers.specs.Present.{Present};
 ghost use Rattle.forms.specs.Delivery.{ticketIn, authenticatorIn, deliveryIn};
-ghost use Rattle.forms.specs.Forms.{requestIn, replyIn, confirmationIn};
+ghost use Rattle.forms.specs.Forms.{requestIn, confirmationIn};
+ghost use Rattle.forms.specs.Grant.{replyForm, alone, grantOf, pairIn, grantIn, Replies, Grants};
 
 pub enum Request {
     Is { a: u16, b: u16, n: u16 },
@@ -37,21 +41,21 @@ pub fn open_request(terms: &[u64], m: u16) -> Request
     Request::Is { a, b, n }
 }
 
+// What is read of {K, b, Ts, ..} under a's key, and the number of the term that is left.
 pub enum Reply {
     Is {
         k: u16,
         b: u16,
         ts: u32,
-        n: u16,
         a: u16,
+        rest: u16,
     },
     Other,
 }
 
-// {K, b, Ts, N} under a's key.
-pub fn open_reply(terms: &[u64], m: u16) -> Reply
+fn open_reply(terms: &[u64], m: u16) -> Reply
     requires { ⌜ Present (now terms) m ⌝ }
-    ensures { λ r. ⌜ r ≡ replyIn (messageAt (now (terms .entry)) m) ⌝ }
+    ensures { λ r. ⌜ Replies (now (terms .entry)) m r (replyForm (messageAt (now (terms .entry)) m)) ⌝ }
 {
     let Opened::Value(a, body) = under_long_term_key(terms, m) else {
         return Reply::Other;
@@ -62,13 +66,74 @@ pub fn open_reply(terms: &[u64], m: u16) -> Reply
     let Opened::Value(b, after_b) = principal_first(terms, after_k) else {
         return Reply::Other;
     };
-    let OpenedTime::Value(ts, after_ts) = time_first(terms, after_b) else {
+    let OpenedTime::Value(ts, rest) = time_first(terms, after_b) else {
         return Reply::Other;
     };
-    let Term::Nonce(n) = term_at(terms, after_ts) else {
-        return Reply::Other;
+    Reply::Is { k, b, ts, a, rest }
+}
+
+// What the initiator takes: the server's reply, and the number of the term X, which is not opened.
+pub enum Grant {
+    Is {
+        k: u16,
+        b: u16,
+        ts: u32,
+        n: u16,
+        a: u16,
+        x: u16,
+    },
+    Other,
+}
+
+// {K, b, Ts, N} under a's key, with an X that stands beside it.
+fn open_beside(terms: &[u64], m: u16, x: u16) -> Grant
+    requires { ⌜ Present (now terms) m ⌝ }
+    ensures { λ r. ⌜ Grants (now (terms .entry)) x r (grantOf (replyForm (messageAt (now (terms .entry)) m)) (alone (messageAt (now (terms .entry)) x))) ⌝ }
+{
+    let Reply::Is { k, b, ts, a, rest } = open_reply(terms, m) else {
+        return Grant::Other;
     };
-    Reply::Is { k, b, ts, n, a }
+    let Term::Nonce(n) = term_at(terms, rest) else {
+        return Grant::Other;
+    };
+    Grant::Is { k, b, ts, n, a, x }
+}
+
+// {K, b, Ts, N, X} under a's key.
+fn open_inside(terms: &[u64], m: u16) -> Grant
+    requires { ⌜ Present (now terms) m ⌝ }
+    ensures { λ r. ⌜ Grants (now (terms .entry)) m r (grantOf (replyForm (messageAt (now (terms .entry)) m)) (first NONCE)) ⌝ }
+{
+    let Reply::Is { k, b, ts, a, rest } = open_reply(terms, m) else {
+        return Grant::Other;
+    };
+    let Opened::Value(n, x) = nonce_first(terms, rest) else {
+        return Grant::Other;
+    };
+    Grant::Is { k, b, ts, n, a, x }
+}
+
+// The pair of {K, b, Ts, N} under a's key and X.
+fn open_pair(terms: &[u64], m: u16) -> Grant
+    requires { ⌜ Present (now terms) m ⌝ }
+    ensures { λ r. ⌜ Grants (now (terms .entry)) m r (pairIn (messageAt (now (terms .entry)) m)) ⌝ }
+{
+    let Term::Pair(l, x) = term_at(terms, m) else {
+        return Grant::Other;
+    };
+    open_beside(terms, l, x)
+}
+
+// By the form. Where there is no X the message itself stands for it.
+pub fn open_grant(form: Form, terms: &[u64], m: u16) -> Grant
+    requires { ⌜ Present (now terms) m ⌝ }
+    ensures { λ r. ⌜ Grants (now (terms .entry)) m r (grantIn form (messageAt (now (terms .entry)) m)) ⌝ }
+{
+    match form {
+        Form::Parallel => open_beside(terms, m, m),
+        Form::Kerberos5 => open_pair(terms, m),
+        Form::Kerberos4 => open_inside(terms, m),
+    }
 }
 
 pub enum Ticket {

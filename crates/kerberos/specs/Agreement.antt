@@ -1,4 +1,4 @@
--- Demand 3 as a statement about a history: what is promised at each acceptance, a field for each clause. Points are
+-- Demand 3 as a statement about a history, in each form: what is promised at each acceptance, a field for each clause. Points are
 -- points of the list of calls; what is so at a point is read from the calls and answers up to it. "Ever" is at any point, before
 -- the acceptance or after it.
 -- Assumes nothing.
@@ -8,10 +8,11 @@ use mathlib.Core.Logic.{_⊎_}
 use Rattle.terms.specs.Message.{session, key}
 use Rattle.traces.specs.Realm.{Realm, Good}
 use Rattle.traces.specs.Lists.{_⊑_}
+use Rattle.traces.specs.Logs.{Did}
 use Rattle.traces.specs.Conditions.{Derivable}
 use Rattle.traces.specs.RuleSets.{History}
-use Rattle.kerberos.specs.Messages.{Form}
-use Rattle.kerberos.specs.Log.{Log, clock}
+use Rattle.exchange.specs.declared.form.Form.{Form}
+use Rattle.kerberos.specs.Log.{Issue, Log, clock}
 use Rattle.kerberos.specs.Reading as reading
 use Rattle.kerberos.specs.Words.{Initiator, Responder, RunOf, Has, Holds, Accepts, ServersKey, Leaked}
 
@@ -49,3 +50,15 @@ module _ (f : Form) where
       → Accepts (log acc) r A B k ts ta
       → ¬ (Leaked (log acc) k)
       → Agreement R h acc A B r k ts ta
+
+  -- "the secrecy of an unleaked key" (02, change 6): the intruder cannot derive a key that the server issued to good A and B and that
+  -- has not leaked, accepted with or not
+  abbrev pub Secrecy : Realm → History → Type 0
+  Secrecy R h =
+      (A B : ℕ)
+      → Good R A
+      → Good R B
+      → (k ts n : ℕ)
+      → Did (log h) (Issue k A B ts n)
+      → ¬ (Leaked (log h) k)
+      → ¬ (Derivable R (log h) (key (session k)))

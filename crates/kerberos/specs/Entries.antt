@@ -7,7 +7,7 @@ use Rattle.traces.specs.Realm.{Realm, Good}
 use Rattle.traces.specs.Lists.{_∈_, _⊑_}
 use Rattle.traces.specs.Logs.{Did}
 use Rattle.traces.specs.RuleSets.{History, entry}
-use Rattle.kerberos.specs.Messages.{Form}
+use Rattle.exchange.specs.declared.form.Form.{Form}
 use Rattle.kerberos.specs.Log.{Issue, Authenticate, Log, clock, cache}
 use Rattle.kerberos.specs.Reading as reading
 use Rattle.kerberos.specs.Words.{Accepts, Leaked}

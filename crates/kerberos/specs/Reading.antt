@@ -14,7 +14,10 @@ use Rattle.traces.specs.Terms.{given}
 use Rattle.traces.specs.Places.{leftOf, rightOf, bodyOf, numberOf, rest, at}
 use Rattle.traces.specs.RuleSets.{History, Reading, RuleSet}
 use Rattle.traces.specs.RuleSets as rulesets
-use Rattle.kerberos.specs.Messages.{Form, parallel, request, confirmation, issue, presented}
+use Rattle.exchange.specs.declared.form.Form.{Form}
+use Rattle.exchange.specs.declared.form.Form.the-variants.{Parallel, Kerberos5, Kerberos4}
+use Rattle.exchange.specs.Forms.{formOf}
+use Rattle.kerberos.specs.Messages.{request, confirmation, issue, presented}
 use Rattle.kerberos.specs.Log.{Event, Initiate, Respond, Issue, Authenticate, Accept, Finish, Tick, Purge, Leak, Nothing, Act, idle, Log}
 use Rattle.kerberos.specs.Log.{clock, runs, run, next, stored, cache}
 use Rattle.kerberos.specs.Rules.{Takes}
@@ -31,18 +34,21 @@ did3 f r a b ts n = (Issue r a b ts n, issue f r a b ts n)
 abbrev read3 : Form → (r now : ℕ) → Message → Act
 read3 f r now m = did3 f r (numberOf (at 0 m)) (numberOf (at 1 m)) now (numberOf (rest 2 m))
 
--- the server's reply in what step 4 took
-abbrev replyIn : Form → Message → Message
-replyIn parallel m = m
+-- what step 4 took, apart: the server's reply, and "any term X". Under HD and HW there is no X, and what stands for it is not
+-- looked at.
+abbrev pub parts : Form → Message → Message × Message
+parts Parallel m = (m, m)
+parts Kerberos5 m = (leftOf m, rightOf m)
+parts Kerberos4 m = (m, rest 4 (bodyOf m))
 
--- {K, b, Ts, ..} under a's key; a and b are the run's own
-abbrev did4 : Form → (r a b k ts ta : ℕ) → Act
-did4 f r a b k ts ta = (Authenticate r a b k ts ta, presented f a ta k)
+-- {K, b, Ts, ..} under a's key, and X; a and b are the run's own
+abbrev did4 : Form → (r a b k ts ta : ℕ) → (x : Message) → Act
+did4 f r a b k ts ta x = (Authenticate r a b k ts ta, presented f a ta k x)
 
 abbrev pub read4 : Form → (r now : ℕ) → Row → Message → Act
 read4 f r now own m =
-    let body = bodyOf (replyIn f m) in
-    did4 f r (own .a) (own .b) (numberOf (at 0 body)) (numberOf (at 2 body)) now
+    let body = bodyOf (parts f m .0) in
+    did4 f r (own .a) (own .b) (numberOf (at 0 body)) (numberOf (at 2 body)) now (parts f m .1)
 
 -- {K, a, Ts} under b's key and {a, Ta}K; a and b are the run's own
 abbrev did5 : (r a b k ts ta : ℕ) → Act
@@ -83,9 +89,9 @@ abbrev pub rules : Form → RuleSet
 rules f =
     record { Event = Event; nothing = Nothing; clock = clock; Row = Row; rows = λ l. map stored (runs l); entries = cache; actOf = actOf f; Takes = Takes f }
 
--- what the header mark HD names
-abbrev pub HD : RuleSet
-HD = rules parallel
+-- "Add two rule sets, named by header marks H5 and H4 .. and keep the old one under HD and HW": what a realm's header names
+abbrev pub setOf : Realm → RuleSet
+setOf R = rules (formOf (R .rules))
 
 -- the log that a list of calls with their answers is read as
 abbrev pub log : Form → History → Log

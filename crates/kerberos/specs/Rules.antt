@@ -17,7 +17,8 @@ use Rattle.traces.specs.Lists.{_∈_}
 use Rattle.traces.specs.Terms.{messageFrom, FieldsFit, TermsFit}
 use Rattle.traces.specs.Conditions.{Delivers, Apart, OwnNonce}
 use Rattle.traces.specs.RuleSets.{entry}
-use Rattle.kerberos.specs.Messages.{Form, request, ticket, authenticator, confirmation, issue, grant, presented}
+use Rattle.exchange.specs.declared.form.Form.{Form}
+use Rattle.kerberos.specs.Messages.{request, ticket, authenticator, confirmation, issue, grant, presented}
 use Rattle.kerberos.specs.Log.{Initiate, Respond, Issue, Authenticate, Accept, Finish, Tick, Purge, Leak, Act, idle, Log}
 use Rattle.kerberos.specs.Log.{clock, run, next, initiatorOpened, initiatorAuthenticated, responderOpened, serverDone, cache}
 
@@ -62,21 +63,22 @@ pub data Takes (f : Form) (R : Realm) (terms : List Message) (l : Log) : Call �
       → RunFits l
       → Takes f R terms l (Step 2 0 a b 0 0) (Respond (next l) a b, [])
   -- "3 | m | m is [a, b, any nonce N], a and b unequal and not 0; opens server run r; K is session key r, Ts the clock; sends
-  -- {K, b, Ts, N} under a's key, then {K, a, Ts} under b's key"
+  -- {K, b, Ts, N} under a's key, then {K, a, Ts} under b's key", or under H5 and H4 both in one message
   takes3 : {m a b n : ℕ}
       → Delivers R terms l m (request a b n)
       → Apart a b
       → RunFits l
       → TermsFit (issue f (next l) a b (clock l) n) terms
       → Takes f R terms l (Step 3 0 0 0 m 0) (Issue (next l) a b (clock l) n, issue f (next l) a b (clock l) n)
-  -- "4 | run, m | m is {K, b, Ts, own nonce} under a's key; Ta becomes the clock; sends {a, Ta}K"
-  takes4 : {r m a b k ts n : ℕ}
+  -- "4 | run, m | m is {K, b, Ts, own nonce} under a's key; Ta becomes the clock; sends {a, Ta}K"; under H5 and H4 it takes "any
+  -- term X" with that and sends "the pair of X and {a, Ta}K"
+  takes4 : {r m a b k ts n : ℕ} (x : Message)
       → run l r ≡ some (initiatorOpened a b)
-      → Delivers R terms l m (grant f k b ts n a)
+      → Delivers R terms l m (grant f k b ts n a x)
       → OwnNonce r n
       → TicketLives R l ts
-      → TermsFit (presented f a (clock l) k) terms
-      → Takes f R terms l (Step 4 r 0 0 m 0) (Authenticate r a b k ts (clock l), presented f a (clock l) k)
+      → TermsFit (presented f a (clock l) k x) terms
+      → Takes f R terms l (Step 4 r 0 0 m 0) (Authenticate r a b k ts (clock l), presented f a (clock l) k x)
   -- "5 | run, m | m is the pair of {K, a, Ts} under b's key and {a, Ta}K; remembers b, K, Ta; sends {Ta}K"
   takes5 : {r m a b k ts ta : ℕ}
       → run l r ≡ some (responderOpened a b)

@@ -1,7 +1,7 @@
 -- What this crate promises. The definitions that it is stated in, in reading order: Messages (with the forms), Log and Rules (what
--- the steps mean), Reading and Words (how a list of calls with its answers is read), Agreement (the claim), Entries (who fills the
--- replay cache). Examples shows that the claim is not empty and that its conditions are needed; proofs are in Laws, and what is
--- argued for a form singly is in Laws/Forms.
+-- the steps mean), Reading and Words (how a list of calls with its answers is read), Agreement (the claims), Entries (who fills the
+-- replay cache). Examples shows that the claims are not empty and that their conditions are needed; proofs are in Laws, and what is
+-- argued for each form singly is in Laws/Forms.
 -- Assumes nothing.
 use Prim.Native.Nat.{ℕ}
 use mathlib.Core.Path.{_≡_}
@@ -17,26 +17,30 @@ use Rattle.traces.specs.Realm.{Realm, HeaderPasses}
 use Rattle.traces.specs.RuleSets.{History, Reading}
 use Rattle.traces.specs.Engines.{Engine, history}
 use Rattle.traces.specs.Laws.Histories.{lawful}
-use Rattle.kerberos.specs.Messages.{Form}
+use Rattle.exchange.specs.declared.form.Form.{Form}
 use Rattle.kerberos.specs.Log.{Event, Act, Log, Run, run, stored}
 use Rattle.kerberos.specs.Rules.{Takes}
 use Rattle.kerberos.specs.Reading.{rules, actOf, Lawful}
-use Rattle.kerberos.specs.Agreement.{Demand3}
+use Rattle.kerberos.specs.Agreement.{Demand3, Secrecy}
 use Rattle.kerberos.specs.Entries.{Entries}
 use Rattle.kerberos.specs.Laws.Entries.{entered}
-use Rattle.kerberos.specs.Laws.Histories.{agreement, taken-read}
+use Rattle.kerberos.specs.Laws.Histories.{agreement, secrecy, taken-read}
 use Rattle.kerberos.specs.Laws.Needs.{takes-met}
 
--- Demand 3 holds of every list of calls in which each accepted call is one that the rules take.
+-- Demand 3 holds of every list of calls in which each accepted call is one that the rules take, in each form.
 pub demand3 : (f : Form) (R : Realm) (h : History) → Lawful f R h → Demand3 f R h
 demand3 f R h w = agreement w
+
+-- The intruder cannot derive a key that was issued to two good principals and has not leaked.
+pub secret-keys : (f : Form) (R : Realm) (h : History) → Lawful f R h → Secrecy f R h
+secret-keys f R h w = secrecy w
 
 -- Each entry of the replay cache comes from an acceptance of a time near the clock, and is the initiator's own unless the intruder has
 -- a key for it.
 pub entries : (f : Form) (R : Realm) (h : History) → Lawful f R h → Entries f R h
 entries f R h w = entered w
 
--- Both hold of an engine, for every header that refusal 2 lets pass and every list of calls: its list is such a one.
+-- They hold of an engine, for every header that refusal 2 lets pass and every list of calls: its list is such a one.
 pub engine-lawful : (f : Form) (R : Realm) → HeaderPasses R → (E : Engine (rules f) R) (cs : List Call) → AllSized cs → Lawful f R (history (rules f) R E cs)
 engine-lawful f R header E cs z = lawful (rules f) R E header cs z
 

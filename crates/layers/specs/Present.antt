@@ -28,7 +28,7 @@ abbrev pub readTime : OpenedTime → Option (ℕ × ℕ)
 readTime (openedTime.Value v rest) = some (v, rest)
 readTime openedTime.Other = none
 
--- the answer is what a layer reads: the same value, and what is left is a term that stands for the message left
-abbrev pub Opens : List ℕ → Option (ℕ × ℕ) → Option (ℕ × Message) → Type 0
-Opens ts none o = o ≡ none
-Opens ts (some (v, rest)) o = (o ≡ some (v, messageAt ts rest)) × Present ts rest
+-- the answer is what a layer reads of term i: the same value, and what is left is an earlier term that stands for the message left
+abbrev pub Opens : List ℕ → (i : ℕ) → Option (ℕ × ℕ) → Option (ℕ × Message) → Type 0
+Opens ts i none o = o ≡ none
+Opens ts i (some (v, rest)) o = (o ≡ some (v, messageAt ts rest)) × Present ts rest × (rest < i)

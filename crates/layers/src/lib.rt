@@ -5,7 +5,7 @@ use words::decode;
 ghost use mathlib.Core.Path.{_≡_};
 ghost use Rattle.terms.specs.Meaning.{messageAt};
 ghost use Rattle.terms.specs.Rules.{termAt};
-ghost use Rattle.layers.specs.Layers.{PRINCIPAL, TIME, LONG_TERM_KEY, SESSION_KEY, first, under};
+ghost use Rattle.layers.specs.Layers.{PRINCIPAL, TIME, NONCE, LONG_TERM_KEY, SESSION_KEY, first, under};
 ghost use Rattle.layers.specs.Present.{Present, Opens, read, readTime};
 
 // Term number i.
@@ -30,7 +30,7 @@ pub enum OpenedTime {
 // [p, ..] with a principal p.
 pub fn principal_first(terms: &[u64], i: u16) -> Opened
     requires { ⌜ Present (now terms) i ⌝ }
-    ensures { λ r. ⌜ Opens (now (terms .entry)) (read r) (first PRINCIPAL (messageAt (now (terms .entry)) i)) ⌝ }
+    ensures { λ r. ⌜ Opens (now (terms .entry)) i (read r) (first PRINCIPAL (messageAt (now (terms .entry)) i)) ⌝ }
 {
     let Term::Pair(l, rest) = term_at(terms, i) else {
         return Opened::Other;
@@ -44,7 +44,7 @@ pub fn principal_first(terms: &[u64], i: u16) -> Opened
 // [K, ..] with a session key K.
 pub fn session_key_first(terms: &[u64], i: u16) -> Opened
     requires { ⌜ Present (now terms) i ⌝ }
-    ensures { λ r. ⌜ Opens (now (terms .entry)) (read r) (first SESSION_KEY (messageAt (now (terms .entry)) i)) ⌝ }
+    ensures { λ r. ⌜ Opens (now (terms .entry)) i (read r) (first SESSION_KEY (messageAt (now (terms .entry)) i)) ⌝ }
 {
     let Term::Pair(l, rest) = term_at(terms, i) else {
         return Opened::Other;
@@ -55,10 +55,24 @@ pub fn session_key_first(terms: &[u64], i: u16) -> Opened
     Opened::Value(k, rest)
 }
 
+// [N, ..] with a nonce N.
+pub fn nonce_first(terms: &[u64], i: u16) -> Opened
+    requires { ⌜ Present (now terms) i ⌝ }
+    ensures { λ r. ⌜ Opens (now (terms .entry)) i (read r) (first NONCE (messageAt (now (terms .entry)) i)) ⌝ }
+{
+    let Term::Pair(l, rest) = term_at(terms, i) else {
+        return Opened::Other;
+    };
+    let Term::Nonce(n) = term_at(terms, l) else {
+        return Opened::Other;
+    };
+    Opened::Value(n, rest)
+}
+
 // [T, ..] with a time T.
 pub fn time_first(terms: &[u64], i: u16) -> OpenedTime
     requires { ⌜ Present (now terms) i ⌝ }
-    ensures { λ r. ⌜ Opens (now (terms .entry)) (readTime r) (first TIME (messageAt (now (terms .entry)) i)) ⌝ }
+    ensures { λ r. ⌜ Opens (now (terms .entry)) i (readTime r) (first TIME (messageAt (now (terms .entry)) i)) ⌝ }
 {
     let Term::Pair(l, rest) = term_at(terms, i) else {
         return OpenedTime::Other;
@@ -72,7 +86,7 @@ pub fn time_first(terms: &[u64], i: u16) -> OpenedTime
 // {..} under the key of a principal.
 pub fn under_long_term_key(terms: &[u64], i: u16) -> Opened
     requires { ⌜ Present (now terms) i ⌝ }
-    ensures { λ r. ⌜ Opens (now (terms .entry)) (read r) (under LONG_TERM_KEY (messageAt (now (terms .entry)) i)) ⌝ }
+    ensures { λ r. ⌜ Opens (now (terms .entry)) i (read r) (under LONG_TERM_KEY (messageAt (now (terms .entry)) i)) ⌝ }
 {
     let Term::Encrypted(body, key) = term_at(terms, i) else {
         return Opened::Other;
@@ -86,7 +100,7 @@ pub fn under_long_term_key(terms: &[u64], i: u16) -> Opened
 // {..}K under a session key K.
 pub fn under_session_key(terms: &[u64], i: u16) -> Opened
     requires { ⌜ Present (now terms) i ⌝ }
-    ensures { λ r. ⌜ Opens (now (terms .entry)) (read r) (under SESSION_KEY (messageAt (now (terms .entry)) i)) ⌝ }
+    ensures { λ r. ⌜ Opens (now (terms .entry)) i (read r) (under SESSION_KEY (messageAt (now (terms .entry)) i)) ⌝ }
 {
     let Term::Encrypted(body, key) = term_at(terms, i) else {
         return Opened::Other;

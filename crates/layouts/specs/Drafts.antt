@@ -1,11 +1,11 @@
--- The messages that steps send (document 01, "Steps"), as drafts: a node for each term, in the order in which adding meets
+-- The messages that steps send (document 01, "Steps"; 02, change 6), as drafts: a node for each term, in the order in which adding meets
 -- them, "each after its parts, left before right". The key of an encryption stands in its node.
 -- Assumes nothing.
 use mathlib.Core.List.{List, [], _∷_}
 use Prim.Native.Nat.{ℕ, zero, suc}
 use Rattle.drafts.specs.declared.DraftKey.the-variants.{LongTerm, Session}
 use Rattle.drafts.specs.declared.Node.{Node}
-use Rattle.drafts.specs.declared.Node.the-variants.{Principal, Time, Nonce, Key, Pair, Encrypted}
+use Rattle.drafts.specs.declared.Node.the-variants.{Principal, Time, Nonce, Key, Pair, Encrypted, Stored}
 
 -- the first m places of a draft; what stands in the places left is not looked at
 abbrev pub places : ℕ → List Node → List Node
@@ -27,6 +27,10 @@ REPLY_ROOT = 7
 abbrev pub TICKET_ROOT : ℕ
 TICKET_ROOT = 11
 
+-- H5: "sends one pair of the panel's part and the ticket"
+abbrev pub CARRIED_ROOT : ℕ
+CARRIED_ROOT = 12
+
 unfoldable pub issueDraft : (k a b ts n : ℕ) → List Node
 issueDraft k a b ts n = places 16 (
     Key (Session k)
@@ -41,14 +45,40 @@ issueDraft k a b ts n = places 16 (
     ∷ Pair 8 2
     ∷ Pair 0 9
     ∷ Encrypted 10 (LongTerm b)
+    ∷ Pair REPLY_ROOT TICKET_ROOT
+    ∷ [])
+
+-- H4: "the panel's part is {K, b, Ts, N, ticket} under a's key"
+abbrev pub NESTED_ROOT : ℕ
+NESTED_ROOT = 12
+
+unfoldable pub nestedIssueDraft : (k a b ts n : ℕ) → List Node
+nestedIssueDraft k a b ts n = places 16 (
+    Key (Session k)
+    ∷ Principal b
+    ∷ Time ts
+    ∷ Nonce n
+    ∷ Principal a
+    ∷ Pair 4 2
+    ∷ Pair 0 5
+    ∷ Encrypted 6 (LongTerm b)
+    ∷ Pair 3 7
+    ∷ Pair 2 8
+    ∷ Pair 1 9
+    ∷ Pair 0 10
+    ∷ Encrypted 11 (LongTerm a)
     ∷ [])
 
 -- step 4 "sends {a, Ta}K"
 abbrev pub AUTHENTICATOR_ROOT : ℕ
 AUTHENTICATOR_ROOT = 3
 
-unfoldable pub authenticatorDraft : (a ta k : ℕ) → List Node
-authenticatorDraft a ta k = places 16 (Principal a ∷ Time ta ∷ Pair 0 1 ∷ Encrypted 2 (Session k) ∷ [])
+-- H5 and H4: "sends the pair of X and {a, Ta}K", X being term x
+abbrev pub PRESENTED_ROOT : ℕ
+PRESENTED_ROOT = 5
+
+unfoldable pub presentedDraft : (a ta k x : ℕ) → List Node
+presentedDraft a ta k x = places 16 (Principal a ∷ Time ta ∷ Pair 0 1 ∷ Encrypted 2 (Session k) ∷ Stored x ∷ Pair 4 AUTHENTICATOR_ROOT ∷ [])
 
 -- step 5 "sends {Ta}K"
 abbrev pub CONFIRMATION_ROOT : ℕ

@@ -7,11 +7,11 @@ use Prim.Native.Nat.{ℕ, _<_, _≤_}
 use borrow.Author.Tests.{lt-ltb, le-leb}
 use Rattle.terms.specs.AllOf.{each}
 use Rattle.drafts.specs.Draft.{draftMessage, draftFits}
-use Rattle.kerberos.specs.Messages.{parallel, request, reply, ticket, authenticator, confirmation}
+use Rattle.kerberos.specs.Messages.{request, reply, ticket, authenticator, confirmation}
 use Rattle.terms.specs.Descend.{descend, layers}
-use Rattle.terms.specs.Message.{session, Message, key}
-use Rattle.layouts.specs.Drafts.{REQUEST_ROOT, REPLY_ROOT, TICKET_ROOT, AUTHENTICATOR_ROOT, CONFIRMATION_ROOT, KEY_ROOT}
-use Rattle.layouts.specs.Drafts.{requestDraft, issueDraft, authenticatorDraft, confirmationDraft, keyDraft}
+use Rattle.terms.specs.Message.{session, Message, nonce, key, pair}
+use Rattle.layouts.specs.Drafts.{REQUEST_ROOT, REPLY_ROOT, TICKET_ROOT, CARRIED_ROOT, NESTED_ROOT, AUTHENTICATOR_ROOT, PRESENTED_ROOT, CONFIRMATION_ROOT, KEY_ROOT}
+use Rattle.layouts.specs.Drafts.{requestDraft, issueDraft, nestedIssueDraft, presentedDraft, confirmationDraft, keyDraft}
 
 -- the message at the root
 module _ (stored : ℕ → Message) where
@@ -19,7 +19,7 @@ module _ (stored : ℕ → Message) where
   unfolding requestDraft draftMessage descend layers
   request-at a b n = refl
 
-  pub reply-at : (k a b ts n : ℕ) → draftMessage stored (issueDraft k a b ts n) REPLY_ROOT ≡ reply parallel k b ts n a
+  pub reply-at : (k a b ts n : ℕ) → draftMessage stored (issueDraft k a b ts n) REPLY_ROOT ≡ reply k b ts (nonce n) a
   unfolding issueDraft draftMessage descend layers
   reply-at k a b ts n = refl
 
@@ -27,9 +27,21 @@ module _ (stored : ℕ → Message) where
   unfolding issueDraft draftMessage descend layers
   ticket-at k a b ts n = refl
 
-  pub authenticator-at : (a ta k : ℕ) → draftMessage stored (authenticatorDraft a ta k) AUTHENTICATOR_ROOT ≡ authenticator a ta k
-  unfolding authenticatorDraft draftMessage descend layers
-  authenticator-at a ta k = refl
+  pub carried-at : (k a b ts n : ℕ) → draftMessage stored (issueDraft k a b ts n) CARRIED_ROOT ≡ pair (reply k b ts (nonce n) a) (ticket k a ts b)
+  unfolding issueDraft draftMessage descend layers
+  carried-at k a b ts n = refl
+
+  pub nested-at : (k a b ts n : ℕ) → draftMessage stored (nestedIssueDraft k a b ts n) NESTED_ROOT ≡ reply k b ts (pair (nonce n) (ticket k a ts b)) a
+  unfolding nestedIssueDraft draftMessage descend layers
+  nested-at k a b ts n = refl
+
+  pub authenticator-at : (a ta k x : ℕ) → draftMessage stored (presentedDraft a ta k x) AUTHENTICATOR_ROOT ≡ authenticator a ta k
+  unfolding presentedDraft draftMessage descend layers
+  authenticator-at a ta k x = refl
+
+  pub presented-at : (a ta k x : ℕ) → draftMessage stored (presentedDraft a ta k x) PRESENTED_ROOT ≡ pair (stored x) (authenticator a ta k)
+  unfolding presentedDraft draftMessage descend layers
+  presented-at a ta k x = refl
 
   pub confirmation-at : (ta k : ℕ) → draftMessage stored (confirmationDraft ta k) CONFIRMATION_ROOT ≡ confirmation ta k
   unfolding confirmationDraft draftMessage descend layers
@@ -49,9 +61,13 @@ module _ (n count : ℕ) where
   unfolding issueDraft draftFits each
   issue-fits k a b ts i h p q t r = rw (le-leb k 95 h, lt-ltb b n q, le-leb ts 4294967295 t, le-leb i 95 r, lt-ltb a n p)
 
-  pub authenticator-fits : (a ta k : ℕ) → a < n → ta ≤ 4294967295 → k ≤ 95 → draftFits n count (authenticatorDraft a ta k) ≡ true
-  unfolding authenticatorDraft draftFits each
-  authenticator-fits a ta k p t h = rw (lt-ltb a n p, le-leb ta 4294967295 t, le-leb k 95 h)
+  pub nested-fits : (k a b ts i : ℕ) → k ≤ 95 → a < n → b < n → ts ≤ 4294967295 → i ≤ 95 → draftFits n count (nestedIssueDraft k a b ts i) ≡ true
+  unfolding nestedIssueDraft draftFits each
+  nested-fits k a b ts i h p q t r = rw (le-leb k 95 h, lt-ltb b n q, le-leb ts 4294967295 t, le-leb i 95 r, lt-ltb a n p)
+
+  pub presented-fits : (a ta k x : ℕ) → a < n → ta ≤ 4294967295 → k ≤ 95 → x < count → draftFits n count (presentedDraft a ta k x) ≡ true
+  unfolding presentedDraft draftFits each
+  presented-fits a ta k x p t h q = rw (lt-ltb a n p, le-leb ta 4294967295 t, le-leb k 95 h, lt-ltb x count q)
 
   pub confirmation-fits : (ta k : ℕ) → ta ≤ 4294967295 → k ≤ 95 → draftFits n count (confirmationDraft ta k) ≡ true
   unfolding confirmationDraft draftFits each

@@ -4,7 +4,7 @@ use drafts::DraftKey;
 use drafts::NODES;
 use drafts::Node;
 ghost use mathlib.Core.Path.{_≡_};
-ghost use Rattle.layouts.specs.Drafts.{requestDraft, issueDraft, authenticatorDraft, confirmationDraft, keyDraft};
+ghost use Rattle.layouts.specs.Drafts.{requestDraft, issueDraft, nestedIssueDraft, presentedDraft, confirmationDraft, keyDraft};
 
 // What stands in the places left.
 const BLANK: Node = Node::Time(0);
@@ -16,7 +16,13 @@ pub const REPLY_ROOT: usize = 7;
 
 pub const TICKET_ROOT: usize = 11;
 
+pub const CARRIED_ROOT: usize = 12;
+
+pub const NESTED_ROOT: usize = 12;
+
 pub const AUTHENTICATOR_ROOT: usize = 3;
+
+pub const PRESENTED_ROOT: usize = 5;
 
 pub const CONFIRMATION_ROOT: usize = 1;
 
@@ -35,7 +41,7 @@ pub fn lay_request(a: u16, b: u16, n: u16) -> [Node; 16]
     draft
 }
 
-// Step 3: {K, b, Ts, N} under a's key, and {K, a, Ts} under b's key.
+// Step 3: {K, b, Ts, N} under a's key, {K, a, Ts} under b's key, and the pair of both.
 pub fn lay_issue(k: u16, a: u16, b: u16, ts: u32, n: u16) -> [Node; 16]
     ensures { λ r. ⌜ r ≡ issueDraft k a b ts n ⌝ }
 {
@@ -52,18 +58,42 @@ pub fn lay_issue(k: u16, a: u16, b: u16, ts: u32, n: u16) -> [Node; 16]
     draft[9] = Node::Pair(8, 2);
     draft[10] = Node::Pair(0, 9);
     draft[TICKET_ROOT] = Node::Encrypted(10, DraftKey::LongTerm(b));
+    draft[CARRIED_ROOT] = Node::Pair(REPLY_ROOT, TICKET_ROOT);
     draft
 }
 
-// Step 4: {a, Ta}K.
-pub fn lay_authenticator(a: u16, ta: u32, k: u16) -> [Node; 16]
-    ensures { λ r. ⌜ r ≡ authenticatorDraft a ta k ⌝ }
+// Step 3: {K, b, Ts, N, {K, a, Ts} under b's key} under a's key.
+pub fn lay_nested_issue(k: u16, a: u16, b: u16, ts: u32, n: u16) -> [Node; 16]
+    ensures { λ r. ⌜ r ≡ nestedIssueDraft k a b ts n ⌝ }
+{
+    let mut draft = [BLANK; NODES];
+    draft[0] = Node::Key(DraftKey::Session(k));
+    draft[1] = Node::Principal(b);
+    draft[2] = Node::Time(ts);
+    draft[3] = Node::Nonce(n);
+    draft[4] = Node::Principal(a);
+    draft[5] = Node::Pair(4, 2);
+    draft[6] = Node::Pair(0, 5);
+    draft[7] = Node::Encrypted(6, DraftKey::LongTerm(b));
+    draft[8] = Node::Pair(3, 7);
+    draft[9] = Node::Pair(2, 8);
+    draft[10] = Node::Pair(1, 9);
+    draft[11] = Node::Pair(0, 10);
+    draft[NESTED_ROOT] = Node::Encrypted(11, DraftKey::LongTerm(a));
+    draft
+}
+
+// Step 4: {a, Ta}K, and the pair of term x and that.
+pub fn lay_presented(a: u16, ta: u32, k: u16, x: u16) -> [Node; 16]
+    ensures { λ r. ⌜ r ≡ presentedDraft a ta k x ⌝ }
 {
     let mut draft = [BLANK; NODES];
     draft[0] = Node::Principal(a);
     draft[1] = Node::Time(ta);
     draft[2] = Node::Pair(0, 1);
     draft[AUTHENTICATOR_ROOT] = Node::Encrypted(2, DraftKey::Session(k));
+    draft[4] = Node::Stored(x);
+    draft[PRESENTED_ROOT] = Node::Pair(4, AUTHENTICATOR_ROOT);
     draft
 }
 

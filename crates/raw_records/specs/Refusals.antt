@@ -40,7 +40,7 @@ termRefusal n kind l r = cond (ltb 6 kind) 4 (cond (usesRight kind || eqb r 0) (
 
 -- a realm with every run and term that a record can name
 abbrev pub roomy : (n : ℕ) → Realm
-roomy n = record { n = n; flags = 0; ls = 0; la = 0; clock = 0; terms = 65536; runs = 256; entries = 0 }
+roomy n = record { n = n; rules = 0; flags = 0; ls = 0; la = 0; clock = 0; terms = 65536; runs = 256; entries = 0 }
 
 abbrev pub stepFields : (step run a b m t : ℕ) → fields.Step
 stepFields step run a b m t = record { step = step; run = run; a = a; b = b; m = m; t = t }

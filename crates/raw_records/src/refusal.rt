@@ -112,6 +112,7 @@ fn step_refusal(n: u8, step: u32, run: u32, a: u32, b: u32, m: u32, t: u32) -> u
     };
     let h = Realm {
         n,
+        rules: 0,
         flags: 0,
         ls: 0,
         la: 0,

@@ -18,8 +18,8 @@ use Rattle.runs.specs.Lent.{rowsHold}
 use Rattle.replay.specs.declared.entry.Entry.{Entry}
 use Rattle.replay.specs.Cache.{empty}
 use Rattle.realm.specs.declared.header.Realm.{Realm}
-use Rattle.realm.specs.Opening.{headerFits}
-use Rattle.realm.specs.Header.{fits-passes, passes-fits}
+use Rattle.realm.specs.Opening.{realmFits}
+use Rattle.realm.specs.Header.{realm-is, is-realm}
 use Rattle.realm.specs.Tables.{Tables, EntryFits, Together}
 
 -- "Times are 32 bits without sign"
@@ -44,11 +44,11 @@ entryFits n e = ltb (e .b) n && leb (e .k) 95
 unfoldable pub entriesHold : (n : ℕ) → List Entry → (count : ℕ) → Bool
 entriesHold n cache count = leb count 16 && each (λ i. entryFits n (getD cache i empty)) count
 
--- "tables handed in do not hold together" where this is false; n is 3 to 32 "in every hall"
+-- "tables handed in do not hold together" where this is false
 unfoldable pub together : Tables → Bool
 together t =
     let h = t .realm in
-    headerFits 32 (h .n) (h .flags) (h .ls) (h .la)
+    realmFits h
     && holds (h .n) (t .terms) (h .terms)
     && rowsHold (h .n) (t .runs) (h .runs) (t .terms) (h .terms)
     && wireHolds (t .wire) (h .terms)
@@ -101,12 +101,14 @@ unfolding together
 together-is t z w places e =
     let h = t .realm in
     let f =
-    five (headerFits 32 (h .n) (h .flags) (h .ls) (h .la)) (holds (h .n) (t .terms) (h .terms)) (rowsHold (h .n) (t .runs) (h .runs) (t .terms) (h .terms))
+    five (realmFits h) (holds (h .n) (t .terms) (h .terms)) (rowsHold (h .n) (t .runs) (h .runs) (t .terms) (h .terms))
     (wireHolds (t .wire) (h .terms)) (entriesHold (h .n) (t .cache) (h .entries)) e in
+    let r = realm-is h (z .ls) (z .la) (f .first) in
     let wire = wire-is (t .wire) (h .terms) (f .fourth) in
     let es = entries-are (h .n) (t .cache) (h .entries) (f .fifth) in
     record {
-      header-fits = fits-passes 32 (h .n) (h .flags) (h .ls) (h .la) (omega arith) (z .ls) (z .la) (f .first);
+      header-fits = r .0;
+      rules-known = r .1;
       clock-fits = z .clock;
       terms-hold = holds-valid (h .n) (t .terms) (h .terms) (f .second);
       rows-hold = rows-decided (h .n) (t .runs) (h .runs) (t .terms) (h .terms) .0 (f .third);
@@ -122,7 +124,7 @@ unfolding together
 is-together t f =
     let h = t .realm in
     rw (
-      passes-fits 32 (h .n) (h .flags) (h .ls) (h .la) (f .header-fits .most) (f .header-fits),
+      is-realm h (f .header-fits) (f .rules-known),
       valid-holds (f .terms-hold),
       rows-decided (h .n) (t .runs) (h .runs) (t .terms) (h .terms) .1 (f .rows-hold),
       sym (eight-words (t .wire) (h .terms) (f .wire-words .len)),

@@ -17,10 +17,11 @@ use Rattle.exchange.specs.declared.header.Header.{Header}
 use Rattle.exchange.specs.declared.header.Lookup.{Lookup}
 use Rattle.exchange.specs.declared.header.Lookup.the-variants.{Found, Missing}
 use Rattle.exchange.specs.Formats.{formats, rowOf, formatOf}
-use Rattle.exchange.specs.Laws.Formats.{most-known}
+use Rattle.exchange.specs.Laws.Formats.{format-found, most-known}
 use Rattle.traces.specs.Realm as exchange
 use Rattle.traces.specs.Realm.{HeaderPasses}
-use Rattle.realm.specs.Opening.{header, headerFits, refusalBy, headerRefusal, newRealm, by-lookup}
+use Rattle.realm.specs.declared.header.Realm.{Realm}
+use Rattle.realm.specs.Opening.{header, headerFits, realmFits, refusalBy, headerRefusal, rulesBy, newRealm, by-lookup}
 
 -- a header that opens a realm: its mark is known, n is within the mark's limit, and a realm can have its values
 pub record HeaderTaken (g : Header) : Type 0 where
@@ -30,8 +31,8 @@ pub record HeaderTaken (g : Header) : Type 0 where
   pub passes : HeaderPasses (header (newRealm g))
 
 -- a header by its values
-abbrev pub values : (n flags ls la : ℕ) → exchange.Realm
-values n flags ls la = record { n = n; flags = flags; ticketLife = ls; authLife = la }
+abbrev pub values : (rules n flags ls la : ℕ) → exchange.Realm
+values rules n flags ls la = record { rules = rules; n = n; flags = flags; ticketLife = ls; authLife = la }
 
 -- ---- bits at and above n
 
@@ -105,7 +106,7 @@ module _ (most n flags ls la : ℕ) where
   pub fits-most : headerFits most n flags ls la ≡ true → n ≤ most
   fits-most e = tested e .most-is
 
-  pub fits-passes : most ≤ 32 → ls < 2 ^ 32 → la < 2 ^ 32 → headerFits most n flags ls la ≡ true → HeaderPasses (values n flags ls la)
+  pub fits-passes : {rules : ℕ} → most ≤ 32 → ls < 2 ^ 32 → la < 2 ^ 32 → headerFits most n flags ls la ≡ true → HeaderPasses (values rules n flags ls la)
   fits-passes limit hs ha e =
       let t = tested e in
       record {
@@ -119,7 +120,7 @@ module _ (most n flags ls la : ℕ) where
         authLife-fits = ha;
       }
 
-  pub passes-fits : n ≤ most → HeaderPasses (values n flags ls la) → headerFits most n flags ls la ≡ true
+  pub passes-fits : {rules : ℕ} → n ≤ most → HeaderPasses (values rules n flags ls la) → headerFits most n flags ls la ≡ true
   unfolding headerFits
   passes-fits few h =
       rw (
@@ -131,9 +132,22 @@ module _ (most n flags ls la : ℕ) where
         lt-ltb 0 la (h .authLife-some),
       )
 
+-- ---- a realm that is lent
+
+module _ (h : Realm) where
+  pub realm-is : h .ls < 2 ^ 32 → h .la < 2 ^ 32 → realmFits h ≡ true → HeaderPasses (header h) × (h .rules < 3)
+  unfolding realmFits
+  realm-is hs ha e =
+      let p = and-eq-true-iff (headerFits 32 (h .n) (h .flags) (h .ls) (h .la)) (ltb (h .rules) 3) .0 e in
+      (fits-passes 32 (h .n) (h .flags) (h .ls) (h .la) (omega arith) hs ha (p .0), ltb-true (h .rules) 3 (p .1))
+
+  pub is-realm : HeaderPasses (header h) → h .rules < 3 → realmFits h ≡ true
+  unfolding realmFits
+  is-realm f r = rw (passes-fits 32 (h .n) (h .flags) (h .ls) (h .la) (f .most) f, lt-ltb (h .rules) 3 r)
+
 -- ---- the mark too
 
--- "3 to 16" under HD, "3 to 32" under HW
+-- "3 to 16" under HD, "3 to 32" under HW, and H5 and H4 "with the .. limits of HW"
 module _ (n flags ls la : ℕ) where
   pub hd-refusal : headerRefusal (record { mark = 0x4844; n = n; flags = flags; ls = ls; la = la }) ≡ cond (headerFits 16 n flags ls la) 0 2
   unfolding headerRefusal formats rowOf
@@ -142,6 +156,39 @@ module _ (n flags ls la : ℕ) where
   pub hw-refusal : headerRefusal (record { mark = 0x4857; n = n; flags = flags; ls = ls; la = la }) ≡ cond (headerFits 32 n flags ls la) 0 2
   unfolding headerRefusal formats rowOf
   hw-refusal = refl
+
+  pub h5-refusal : headerRefusal (record { mark = 0x4835; n = n; flags = flags; ls = ls; la = la }) ≡ cond (headerFits 32 n flags ls la) 0 2
+  unfolding headerRefusal formats rowOf
+  h5-refusal = refl
+
+  pub h4-refusal : headerRefusal (record { mark = 0x4834; n = n; flags = flags; ls = ls; la = la }) ≡ cond (headerFits 32 n flags ls la) 0 2
+  unfolding headerRefusal formats rowOf
+  h4-refusal = refl
+
+-- "rule sets, named by header marks H5 and H4 .. and keep the old one under HD and HW": each mark's, and so a new realm's
+pub hd-rules : rulesBy (formatOf 0x4844) ≡ 0
+unfolding formats rowOf
+hd-rules = refl
+
+pub hw-rules : rulesBy (formatOf 0x4857) ≡ 0
+unfolding formats rowOf
+hw-rules = refl
+
+pub h5-rules : rulesBy (formatOf 0x4835) ≡ 1
+unfolding formats rowOf
+h5-rules = refl
+
+pub h4-rules : rulesBy (formatOf 0x4834) ≡ 2
+unfolding formats rowOf
+h4-rules = refl
+
+-- no mark names another: a new realm names a rule set
+pub new-known : (mark : ℕ) → rulesBy (formatOf mark) < 3
+new-known mark = by (formatOf mark) refl
+  where
+    by : (l : Lookup) → formatOf mark ≡ l → rulesBy l < 3
+    by Missing q = omega arith
+    by (Found f) q = format-found mark f q .1 .rules-known
 
 module _ (g : Header) where
   pub taken : g .ls < 2 ^ 32 → g .la < 2 ^ 32 → headerRefusal g ≡ 0 → HeaderTaken g

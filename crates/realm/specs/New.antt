@@ -11,12 +11,13 @@ use Rattle.marks.specs.Marks.{Words, marked}
 use Rattle.terms.specs.Choice.{no-true}
 use Rattle.terms.specs.Valid.{Valid}
 use Rattle.exchange.specs.declared.header.Header.{Header}
+use Rattle.exchange.specs.Formats.{formatOf}
 use Rattle.traces.specs.Realm.{HeaderPasses}
 use Rattle.runs.specs.Promises.{hold-none}
 use Rattle.realm.specs.declared.header.Opening.the-variants.{Open}
 use Rattle.realm.specs.declared.header.Realm.{Realm}
-use Rattle.realm.specs.Header.{taken}
-use Rattle.realm.specs.Opening.{header, headerRefusal, newRealm, openingBy, openingOf}
+use Rattle.realm.specs.Header.{taken, new-known}
+use Rattle.realm.specs.Opening.{header, headerRefusal, rulesBy, newUnder, newRealm, openingBy, openingOf}
 use Rattle.realm.specs.Tables.{Tables, Together}
 
 -- what a caller lends for the realm h: tables of the full number of places, and nothing marked on the wire
@@ -32,14 +33,14 @@ pub opened-is : (g : Header) (h : Realm) → openingOf g ≡ Open h → (headerR
 unfolding openingOf
 opened-is g h o = by (headerRefusal g) o
   where
-    by : (k : ℕ) → openingBy k g ≡ Open h → (k ≡ 0) × (newRealm g ≡ h)
+    by : (k : ℕ) → openingBy k (rulesBy (formatOf (g .mark))) g ≡ Open h → (k ≡ 0) × (newRealm g ≡ h)
     by zero e = (refl, cc)
     by (suc k) e = let z : _≡_ {A = ℕ} 0 1 = cc in absurd (omega arith)
 
--- the mark is not kept: realms that are opened with the same values are the same
-pub same-realm : (g : Header) (mark : ℕ) (h i : Realm) → openingOf g ≡ Open h
+-- of the mark the rule set is kept: realms that are opened with the same values under marks of one rule set are the same
+pub same-realm : (g : Header) (mark : ℕ) (h i : Realm) → rulesBy (formatOf mark) ≡ rulesBy (formatOf (g .mark)) → openingOf g ≡ Open h
     → openingOf (record { mark = mark; n = g .n; flags = g .flags; ls = g .ls; la = g .la }) ≡ Open i → h ≡ i
-same-realm g mark h i o p = sym (opened-is g h o .1) ∙ opened-is _ i p .1
+same-realm g mark h i e o p = sym (opened-is g h o .1) ∙ ap (λ (r : ℕ). newUnder r g) (sym e) ∙ opened-is _ i p .1
 
 no-terms : (n : ℕ) {ts : List ℕ} → length ts ≡ 512 → Valid n ts 0
 no-terms n size = record { size = size; room = omega arith; terms = record { fine = λ i h. absurd (omega (arith, h)); once = λ i j h. absurd (omega (arith, h)) } }
@@ -50,6 +51,7 @@ new-holds : (g : Header) (t : Tables) → HeaderPasses (header (newRealm g)) →
 new-holds g t passes l =
     record {
       header-fits = passes;
+      rules-known = new-known (g .mark);
       clock-fits = omega arith;
       terms-hold = no-terms (g .n) (l .terms);
       rows-hold = hold-none (g .n) (l .runs) (omega arith);

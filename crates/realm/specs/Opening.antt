@@ -6,6 +6,7 @@ use borrow.Author.Tests.{le-leb, lt-leb}
 use mathlib.Core.Bool.{Bool, false, not, _&&_, cond}
 use lib.Dec.{ltb, leb, eqb}
 use Rattle.marks.specs.Marks.{isSet}
+use Rattle.exchange.specs.declared.header.Format.{Format}
 use Rattle.exchange.specs.declared.header.Header.{Header}
 use Rattle.exchange.specs.declared.header.Lookup.{Lookup}
 use Rattle.exchange.specs.declared.header.Lookup.the-variants.{Found, Missing}
@@ -17,12 +18,16 @@ use Rattle.realm.specs.declared.header.Realm.{Realm}
 
 -- the header of a realm, as the exchange has it
 abbrev pub header : Realm → exchange.Realm
-header h = record { n = h .n; flags = h .flags; ticketLife = h .ls; authLife = h .la }
+header h = record { rules = h .rules; n = h .n; flags = h .flags; ticketLife = h .ls; authLife = h .la }
 
 -- not: "n outside 3 to 16, a flag on party 0 or at n and above, or a life of 0", with the mark's limit in place of 16
 unfoldable pub headerFits : (most n flags ls la : ℕ) → Bool
 headerFits most n flags ls la =
     (leb 3 n && leb n most) && (not (isSet flags 0) && eqb (flags / 2 ^ n) 0 && ltb 0 ls && ltb 0 la)
+
+-- what 10 asks of a realm: not "a header value as in 2", n being 3 to 32 "in every hall", and not "naming no such set"
+unfoldable pub realmFits : Realm → Bool
+realmFits h = headerFits 32 (h .n) (h .flags) (h .ls) (h .la) && ltb (h .rules) 3
 
 -- 0, or the number of the refusal: 1 "accepts either mark", then 2 reads the mark's limit
 abbrev pub limitRefusal : (most : ℕ) → Header → ℕ
@@ -35,17 +40,28 @@ refusalBy Missing g = 1
 unfoldable pub headerRefusal : Header → ℕ
 headerRefusal g = refusalBy (formatOf (g .mark)) g
 
--- "A new hall has clock 0 and empty tables."
-abbrev pub newRealm : Header → Realm
-newRealm g =
-    record { n = g .n; flags = g .flags; ls = g .ls; la = g .la; clock = 0; terms = 0; runs = 0; entries = 0 }
+-- "rule sets, named by header marks"
+abbrev pub rulesBy : Lookup → ℕ
+rulesBy (Found f) = f .rules
+rulesBy Missing = 0
 
-abbrev pub openingBy : (refusal : ℕ) → Header → Opening
-openingBy zero g = Open (newRealm g)
-openingBy (suc k) g = Refused (suc k)
+-- "A new hall has clock 0 and empty tables."
+abbrev pub newUnder : (rules : ℕ) → Header → Realm
+newUnder rules g =
+    record { n = g .n; rules = rules; flags = g .flags; ls = g .ls; la = g .la; clock = 0; terms = 0; runs = 0; entries = 0 }
+
+abbrev pub newRealm : Header → Realm
+newRealm g = newUnder (rulesBy (formatOf (g .mark))) g
+
+abbrev pub openingBy : (refusal rules : ℕ) → Header → Opening
+openingBy zero rules g = Open (newUnder rules g)
+openingBy (suc k) rules g = Refused (suc k)
+
+abbrev pub openingUnder : Format → Header → Opening
+openingUnder f g = openingBy (limitRefusal (f .most) g) (f .rules) g
 
 unfoldable pub openingOf : Header → Opening
-openingOf g = openingBy (headerRefusal g) g
+openingOf g = openingBy (headerRefusal g) (rulesBy (formatOf (g .mark))) g
 
 -- ---- by the way out
 
@@ -67,11 +83,13 @@ module _ (g : Header) where
   unfolding headerRefusal
   by-lookup l e = ap (λ (x : Lookup). refusalBy x g) (sym e)
 
-  pub opened : {k : ℕ} → k ≡ headerRefusal g → k ≡ 0 → Open (newRealm g) ≡ openingOf g
-  unfolding openingOf
-  opened e z = ap (λ (k : ℕ). openingBy k g) (sym z ∙ e)
+  pub opened : (rules : ℕ) {k : ℕ} → k ≡ 0 → Open (newUnder rules g) ≡ openingBy k rules g
+  opened rules z = ap (λ (k : ℕ). openingBy k rules g) (sym z)
 
-  pub not-opened : (k : ℕ) → k ≡ headerRefusal g → (k ≡ 0 → ⊥) → Refused k ≡ openingOf g
-  unfolding openingOf
-  not-opened zero e some = absurd (some refl)
-  not-opened (suc k) e some = ap (λ (j : ℕ). openingBy j g) e
+  pub not-opened : (rules k : ℕ) → (k ≡ 0 → ⊥) → Refused k ≡ openingBy k rules g
+  not-opened rules zero some = absurd (some refl)
+  not-opened rules (suc k) some = refl
+
+  pub by-row : (l : Lookup) → formatOf (g .mark) ≡ l → openingBy (refusalBy l g) (rulesBy l) g ≡ openingOf g
+  unfolding openingOf headerRefusal
+  by-row l e = ap (λ (x : Lookup). openingBy (refusalBy x g) (rulesBy x) g) (sym e)

@@ -7,6 +7,7 @@ use mathlib.Core.Bool.{true}
 use mathlib.Core.Logic.{_↔_}
 use lib.ListN.{length}
 use Rattle.exchange.specs.declared.header.Header.{Header}
+use Rattle.exchange.specs.Formats.{formatOf}
 use Rattle.realm.specs.declared.header.Opening.the-variants.{Open}
 use Rattle.realm.specs.declared.header.Realm.{Realm}
 use Rattle.realm.specs.declared.input.Step.{Step}
@@ -16,18 +17,20 @@ use Rattle.realm.specs.Header.{HeaderTaken, taken, taken-back}
 use Rattle.realm.specs.Input.{inputRefusal, InputPassed, passed, passed-back}
 use Rattle.realm.specs.New as new
 use Rattle.realm.specs.New.{Lends}
-use Rattle.realm.specs.Opening.{headerRefusal, openingOf}
+use Rattle.realm.specs.Opening.{headerRefusal, rulesBy, openingOf}
 use Rattle.realm.specs.Tables.{Tables, Together}
--- 2 reads "3 to 16" under HD and "3 to 32" under HW.
-pub use Rattle.realm.specs.Header.{hd-refusal, hw-refusal}
+-- 2 reads "3 to 16" under HD and "3 to 32" under HW, H5 and H4.
+pub use Rattle.realm.specs.Header.{hd-refusal, hw-refusal, h5-refusal, h4-refusal}
+-- The rule set that each mark names.
+pub use Rattle.realm.specs.Header.{hd-rules, hw-rules, h5-rules, h4-rules}
 
 -- A header of the file's widths opens a realm exactly where its mark is known, n is within the mark's limit, and the exchange's
 -- `HeaderPasses` holds of its values.
 pub header-exact : (g : Header) → g .ls < 2 ^ 32 → g .la < 2 ^ 32 → (headerRefusal g ≡ 0) ↔ HeaderTaken g
 header-exact g hs ha = (taken g hs ha, taken-back g)
 
--- The realm does not keep its mark: with the same values all open the same.
-pub same-realm : (g : Header) (mark : ℕ) (h i : Realm) → openingOf g ≡ Open h
+-- Of its mark a realm keeps the rule set: with the same values, marks of one rule set open the same.
+pub same-realm : (g : Header) (mark : ℕ) (h i : Realm) → rulesBy (formatOf mark) ≡ rulesBy (formatOf (g .mark)) → openingOf g ≡ Open h
     → openingOf (record { mark = mark; n = g .n; flags = g .flags; ls = g .ls; la = g .la }) ≡ Open i → h ≡ i
 same-realm = new.same-realm
 

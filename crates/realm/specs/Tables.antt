@@ -33,6 +33,8 @@ pub record EntryFits (n : ℕ) (e : Entry) : Type 0 where
 pub record Together (t : Tables) : Type 0 where
   -- not "a header value as in 2"
   pub header-fits : HeaderPasses (header (t .realm))
+  -- not "tables naming no such set"
+  pub rules-known : t .realm .rules < 3
   -- "Times are 32 bits"
   pub clock-fits : t .realm .clock < 2 ^ 32
   -- not "a term that breaks the term rules, 5 or 6 or repeats", and the full number of places

@@ -1,7 +1,6 @@
 // Whether tables that are handed in hold together: what refusal 10 looks at. Any slices, any numbers, nothing required.
-use super::header::MOST_PRINCIPALS;
 use super::header::Realm;
-use super::header::header_fits;
+use super::header::realm_fits;
 use lent_terms::holds_together;
 use marks::is_within;
 use marks::load;
@@ -57,7 +56,7 @@ pub fn tables_hold(h: Realm, terms: &[u64], runs: &[u32], wire: &[u64], cache: [
     ensures { λ r. ⌜ (r ≡ together (tables h (now (terms .entry)) (now (runs .entry)) (now (wire .entry)) cache)) × (r ≡ true → Together (tables h (now (terms .entry)) (now (runs .entry)) (now (wire .entry)) cache)) ⌝ }
 {
     let n = h.n;
-    header_fits(MOST_PRINCIPALS, n, h.flags, h.ls, h.la)
+    realm_fits(h)
         & holds_together(terms, h.terms, n as u16)
         & rows_hold(runs, h.runs, n, terms, h.terms)
         & wire_holds(wire, h.terms)

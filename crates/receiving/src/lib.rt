@@ -4,14 +4,15 @@ use conditions::REFUSE_TICKET;
 use conditions::admit;
 use conditions::ticket_lives;
 use decisions::Verdict;
+use exchange::form::form_of;
 use exchange::run::Row;
 use forms::Confirmation;
 use forms::Delivery;
-use forms::Reply;
+use forms::Grant;
 use forms::Request;
 use forms::open_confirmation;
 use forms::open_delivery;
-use forms::open_reply;
+use forms::open_grant;
 use forms::open_request;
 use realm::header::Realm;
 use replay::entry::Entry;
@@ -57,15 +58,17 @@ pub fn issue(h: Realm, terms: &[u64], m: u16) -> Pending
     let r = h.runs as u8;
     let initiator = a as u8;
     let responder = b as u8;
-    Pending::Asked(issued(h.clock, r, initiator, responder, n))
+    let form = form_of(h.rules);
+    Pending::Asked(issued(h.clock, form, r, initiator, responder, n))
 }
 
-// Step 4: the initiator takes the server's reply to its own request.
+// Step 4: the initiator takes the server's reply to its own request, and a term that it does not open.
 pub fn authenticate(h: Realm, terms: &[u64], run: u8, own: Row, m: u16) -> Pending
     requires { ⌜ Valid (h .n) (now terms) (h .terms) × (m < h .terms) ⌝ }
     ensures { λ r. ⌜ ((ws : List ℕ) → settled r (derivableAt h (now (terms .entry)) ws m) ≡ authenticates h (now (terms .entry)) ws run own m) ⌝ }
 {
-    let Reply::Is { k, b, ts, n, a } = open_reply(terms, m) else {
+    let form = form_of(h.rules);
+    let Grant::Is { k, b, ts, n, a, x } = open_grant(form, terms, m) else {
         return Pending::Settled(Verdict::Refused(REFUSE_FORM));
     };
     if !((b == own.b as u16) & (n == run as u16) & (a == own.a as u16)) {
@@ -75,7 +78,7 @@ pub fn authenticate(h: Realm, terms: &[u64], run: u8, own: Row, m: u16) -> Pendi
         return Pending::Asked(Verdict::Refused(REFUSE_TICKET));
     }
     let key = k as u8;
-    Pending::Asked(authenticated(h.clock, run, own, key, ts))
+    Pending::Asked(authenticated(h.clock, form, run, own, key, ts, x))
 }
 
 // Step 5: the responder takes a ticket and an authenticator.

@@ -8,6 +8,7 @@ use mathlib.Core.List.{List, [], _∷_, map, List·Memᴰ, List·Memᴰ·head, L
 use mathlib.Core.Option.{some, Option·some-injective}
 use native.Mathlib.Omega.{arith}
 use lib.ListN.{length, getElem?}
+use Rattle.terms.specs.Meaning.{messageAt}
 use Rattle.terms.specs.Message.{Message, session, key, pair}
 use Rattle.terms.specs.Choice.{is-false}
 use Rattle.deduction.specs.Promises.{monotone}
@@ -26,6 +27,8 @@ use Rattle.exchange.specs.declared.run.Role.the-variants.{Initiator, Responder,
 use Rattle.exchange.specs.declared.run.Row.{Row}
 use Rattle.exchange.specs.declared.run.Stage.{Stage}
 use Rattle.exchange.specs.declared.run.Stage.the-variants.{Opened, Authenticated}
+use Rattle.exchange.specs.declared.form.Form.{Form}
+use Rattle.exchange.specs.declared.form.Form.the-variants.{Parallel, Kerberos5, Kerberos4}
 use Rattle.exchange.specs.Needs.{isAt}
 use Rattle.traces.specs.Lists.{_∈_, here, there}
 use Rattle.traces.specs.Conditions.{Delivers, Apart}
@@ -35,14 +38,15 @@ use Rattle.traces.specs.Terms.{TermsFit}
 use Rattle.kerberos.specs.Log.{Event, Act, Run, initiatorOpened, initiatorAuthenticated, responderOpened}
 use Rattle.kerberos.specs.Log.{Initiate, Respond, Issue, Authenticate, Accept, Finish}
 use Rattle.kerberos.specs.Log.{clock, runs, run, next, cache, stored}
-use Rattle.kerberos.specs.Messages.{parallel, request, issue, reply, presented, ticket, authenticator, confirmation}
-use Rattle.kerberos.specs.Reading.{HD}
+use Rattle.kerberos.specs.Messages.{request, issue, grant, presented, ticket, authenticator, confirmation}
+use Rattle.kerberos.specs.Reading.{parts, setOf}
 use Rattle.kerberos.specs.Rules.{Takes, takes1, takes2, takes3, takes4, takes5, takes6, takes7, takes8, takes9, takes10}
 use Rattle.realm.specs.Opening.{header}
 use Rattle.realm.specs.Tables.{Tables, Together}
 use Rattle.decisions.specs.declared.Effect.{Effect}
 use Rattle.decisions.specs.Effects.{messagesOf}
-use Rattle.decisions.specs.Laws.Took.{rowAt, Meets, Brings, Admits, Took, took1, took2, took3, took4, took5, took6, took7, took8, took9, took10}
+use Rattle.decisions.specs.Laws.Parts.{part-stands, carried}
+use Rattle.decisions.specs.Laws.Took.{formAt, rowAt, Meets, Brings, Admits, Took, took1, took2, took3, took4, took5, took6, took7, took8, took9, took10}
 use Rattle.simulation.specs.Rules.{next-is, cache-length}
 use Rattle.simulation.specs.Values.{logged, valuesOf}
 
@@ -50,7 +54,7 @@ use Rattle.simulation.specs.Values.{logged, valuesOf}
 pub record Met (t : Tables) (c : Call) (a : Act) : Type 0 where
   pub effect : Effect
   pub took : Took t c (a .0) effect
-  pub sends : messagesOf (effect .sends) ≡ a .1
+  pub sends : messagesOf (t .terms) (effect .sends) ≡ a .1
 
 -- ---- an entry that the log's cache lacks
 
@@ -83,7 +87,17 @@ meets {role = role} {stage = stage} s h = record { below = s .below; at = ap (λ
 
 -- ---- the acts, with the run's values as its row has them, and the clock and the number of the next run as the tables have them
 
+-- the X that is read of a grant is as good as any that makes it
+regrant : (f : Form) (m : Message) (k b ts n a : ℕ) (x : Message) → m ≡ grant f k b ts n a x
+    → (m ≡ grant f k b ts n a (parts f m .1)) × ((a′ ta : ℕ) → presented f a′ ta k (parts f m .1) ≡ presented f a′ ta k x)
+regrant Parallel m k b ts n a x e = (e, λ a′ ta. refl)
+regrant Kerberos5 m k b ts n a x e = rw e (refl, λ a′ ta. refl)
+regrant Kerberos4 m k b ts n a x e = rw e (refl, λ a′ ta. refl)
+
 module _ {t : Tables} where
+  same-brings : {m : ℕ} {x y : Message} → messageAt (t .terms) m ≡ x → messageAt (t .terms) m ≡ y → Brings t m x → Brings t m y
+  same-brings e f b = subst (Brings t _) (sym e ∙ f) b
+
   by1 : {a b : ℕ} (r : ℕ) → t .realm .runs ≡ r → PrincipalsFit (t .realm .n) a b → r < 64
       → Met t (calls.Step 1 0 a b 0 0) (Initiate r a b, request a b r ∷ [])
   by1 r q p room = rw (← q) (record { effect = _; took = took1 p (rw q room); sends = refl })
@@ -92,14 +106,23 @@ module _ {t : Tables} where
   by2 r q p room = rw (← q) (record { effect = _; took = took2 p (rw q room); sends = refl })
 
   by3 : {m a b n : ℕ} (r now : ℕ) → t .realm .runs ≡ r → t .realm .clock ≡ now → Brings t m (request a b n) → Apart a b → r < 64
-      → Met t (calls.Step 3 0 0 0 m 0) (Issue r a b now n, issue parallel r a b now n)
+      → Met t (calls.Step 3 0 0 0 m 0) (Issue r a b now n, issue (formAt t) r a b now n)
   by3 r now q c d p room = rw (← q, ← c) (record { effect = _; took = took3 d p (rw q room); sends = refl })
 
-  by4 : {r m k ts n : ℕ} (own : Row) (now : ℕ) → rowAt t r ≡ own → t .realm .clock ≡ now → Meets t r Initiator Opened
-      → Brings t m (reply parallel k (own .b) ts n (own .a)) → n ≡ r → now < ts + t .realm .ls
-      → Met t (calls.Step 4 r 0 0 m 0) (Authenticate r (own .a) (own .b) k ts now, presented parallel (own .a) now k)
-  by4 {m = m} {k = k} {ts = ts} own now e c w d q i =
-      rw (← e, ← c) (record { effect = _; took = took4 {m = m} {k = k} {ts = ts} w (rw (e, ← q) d) (rw c i); sends = refl })
+  by4 : {r m k ts n : ℕ} (own : Row) (now : ℕ) (x : Message) → Together t → rowAt t r ≡ own → t .realm .clock ≡ now → Meets t r Initiator Opened
+      → Brings t m (grant (formAt t) k (own .b) ts n (own .a) x) → n ≡ r → now < ts + t .realm .ls
+      → Met t (calls.Step 4 r 0 0 m 0) (Authenticate r (own .a) (own .b) k ts now, presented (formAt t) (own .a) now k x)
+  by4 {r} {m} {k} {ts} {n} own now x fits e c w d q i =
+      let g = regrant (formAt t) (messageAt (t .terms) m) k (own .b) ts n (own .a) x (d .is) in
+      let y = parts (formAt t) (messageAt (t .terms) m) .1 in
+      let s = part-stands (fits .terms-hold .terms) (carried (formAt t) (messageAt (t .terms) m) k (own .b) ts n (own .a) y (g .0) refl) m (d .below) refl in
+      let b : Brings t m (grant (formAt t) k (own .b) ts n (own .a) (messageAt (t .terms) (s .place))) = rw (s .means) (same-brings (d .is) (g .0) d) in
+      rw (← e, ← c)
+      (record {
+        effect = _;
+        took = took4 {m = m} {k = k} {ts = ts} {x = s .place} w (rw (e, ← q) b) (record { below = omega (arith, s .by, d .below); is = s .means }) (rw c i);
+        sends = ap (presented (formAt t) (rowAt t r .a) (t .realm .clock) k) (s .means) ∙ g .1 (rowAt t r .a) (t .realm .clock);
+      })
 
   by5 : {r m k ts ta : ℕ} (own : Row) → rowAt t r ≡ own → Meets t r Responder Opened
       → Brings t m (pair (ticket k (own .a) ts (own .b)) (authenticator (own .a) ta k)) → Admits t ts (own .b) k ta
@@ -114,7 +137,7 @@ module _ {t : Tables} where
 
 -- ---- what is taken
 
-module _ (t : Tables) (ρ : Reading Event) (fits : Together t) (g : Agrees HD (header (t .realm)) (valuesOf t) ρ) where
+module _ (t : Tables) (ρ : Reading Event) (fits : Together t) (g : Agrees (setOf (header (t .realm))) (header (t .realm)) (valuesOf (header (t .realm)) t) ρ) where
   pub brings : {m : ℕ} {x : Message} → Delivers (header (t .realm)) (ρ .terms) (ρ .log) m x → Brings t m x
   brings {m} {x} d =
       let p = at-meanings (t .terms) (t .realm .terms) m x (ap (λ (ms : List Message). termAt ms m) (g .terms-are) ∙ d .form) in
@@ -132,14 +155,14 @@ module _ (t : Tables) (ρ : Reading Event) (fits : Together t) (g : Agrees HD (h
       logged-absent (entries (t .cache) (t .realm .entries)) (record { b = b; k = k; ta = ta })
       (subst (λ (c : List Entry). ¬ (entry b k ta ∈ c)) (sym (g .cache-is)) n)
 
-  pub takes-took : {step r a b m now : ℕ} {act : Act} → Takes parallel (header (t .realm)) (ρ .terms) (ρ .log) (calls.Step step r a b m now) act
+  pub takes-took : {step r a b m now : ℕ} {act : Act} → Takes (formAt t) (header (t .realm)) (ρ .terms) (ρ .log) (calls.Step step r a b m now) act
       → Met t (calls.Step step r a b m now) act
   takes-took (takes1 i p room f) = by1 (next (ρ .log)) (next-is t ρ fits g) (record { a-below = i .0; b-below = i .1; apart = p }) room
   takes-took (takes2 i p room) = by2 (next (ρ .log)) (next-is t ρ fits g) (record { a-below = i .0; b-below = i .1; apart = p }) room
   takes-took (takes3 d p room f) = by3 (next (ρ .log)) (clock (ρ .log)) (next-is t ρ fits g) (g .clock-is) (brings d) p room
-  takes-took (takes4 {a = a} {b = b} e d q i f) =
+  takes-took (takes4 {a = a} {b = b} x e d q i f) =
       let s = stands e in
-      by4 (stored (initiatorOpened a b)) (clock (ρ .log)) (s .is) (g .clock-is) (meets s refl) (brings d) q i
+      by4 (stored (initiatorOpened a b)) (clock (ρ .log)) x fits (s .is) (g .clock-is) (meets s refl) (brings d) q i
   takes-took (takes5 {a = a} {b = b} e d i j near n room f) =
       let s = stands e in
       by5 (stored (responderOpened a b)) (s .is) (meets s refl) (brings d)
@@ -178,12 +201,12 @@ module _ (t : Tables) (ρ : Reading Event) (fits : Together t) (g : Agrees HD (h
       ∙ meanings-at (t .terms) (t .realm .terms) (k .1 .place) (k .1 .below)
       ∙ ap some (key-means (fits .terms-hold .terms) (h .key) (k .1) ∙ ap (λ (i : ℕ). key (session i)) (k .0)))
 
-  pub takes-fits : {step r a b m now : ℕ} {act : Act} → Takes parallel (header (t .realm)) (ρ .terms) (ρ .log) (calls.Step step r a b m now) act
+  pub takes-fits : {step r a b m now : ℕ} {act : Act} → Takes (formAt t) (header (t .realm)) (ρ .terms) (ρ .log) (calls.Step step r a b m now) act
       → TermsFit (act .1) (ρ .terms)
   takes-fits (takes1 i p room f) = f
   takes-fits (takes2 i p room) = none-fit
   takes-fits (takes3 d p room f) = f
-  takes-fits (takes4 e d q i f) = f
+  takes-fits (takes4 x e d q i f) = f
   takes-fits (takes5 e d i j near n room f) = f
   takes-fits (takes6 e d i) = none-fit
   takes-fits (takes7 i) = none-fit

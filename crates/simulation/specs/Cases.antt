@@ -30,9 +30,11 @@ use Rattle.exchange.specs.declared.call.Answer.the-variants.{New, Ok, Refused}
 use Rattle.exchange.specs.declared.call.Call.{Call}
 use Rattle.exchange.specs.declared.call.Call.the-variants.{Term, Step}
 use Rattle.exchange.specs.declared.call.Names.the-variants.{Run, Nobody}
+use Rattle.exchange.specs.Forms.{forms}
 use Rattle.exchange.specs.Needs.{needTable}
 use Rattle.layers.specs.Layers.{ofKind, layer, _▸_}
-use Rattle.forms.specs.Forms.{requestIn, replyIn, confirmationIn}
+use Rattle.forms.specs.Forms.{requestIn, confirmationIn}
+use Rattle.forms.specs.Grant.{grantIn}
 use Rattle.forms.specs.Delivery.{ticketIn, authenticatorIn, deliveryIn}
 use Rattle.terms.specs.AllOf.{each}
 use Rattle.runs.specs.Lent.{rowHolds, rowsHold}
@@ -40,7 +42,7 @@ use Rattle.rows.specs.Runs.{runAt, setRun}
 use Rattle.replay.specs.Cache.{empty, present, stays, kept, written}
 use Rattle.realm.specs.Check.{wireHolds, entriesHold, together}
 use Rattle.realm.specs.Input.{usesTable, inRange, inputRefusal}
-use Rattle.realm.specs.Opening.{headerFits}
+use Rattle.realm.specs.Opening.{headerFits, realmFits}
 use Rattle.realm.specs.Tables.{Tables, tables}
 use Rattle.conditions.specs.Conditions.{admission}
 use Rattle.decisions.specs.Decision.{issues, authenticates, takes, finishes, opensRun, ticks, queries, stepOf, decided, decision}
@@ -91,7 +93,7 @@ placed xs = map wordOf xs ++ replicate (512 - length xs) 0
 -- a realm of 3 principals with no runs and no entries: these terms, and a wire of one word
 abbrev handed : (flags ls la : ℕ) → List Word → (wire : ℕ) → Tables
 handed flags ls la xs wire =
-    tables (record { n = 3; flags = flags; ls = ls; la = la; clock = 0; terms = length xs; runs = 0; entries = 0 }) (placed xs)
+    tables (record { n = 3; rules = 0; flags = flags; ls = ls; la = la; clock = 0; terms = length xs; runs = 0; entries = 0 }) (placed xs)
     (replicate 448 0) (wire ∷ replicate 7 0) (replicate 16 empty)
 
 -- "n 3, flags 0, Ls 100, La 10"
@@ -177,10 +179,10 @@ table =
     ∷ []
 
 pub cases : map play table ≡ map (λ c. c .says) table
-unfolding called stepped decision decided stepOf opensRun issues authenticates takes finishes ticks queries admission inputRefusal usesTable inRange needTable runAt setRun derivableOf composesOf saturateOf descend layers sweepOf visitOf marked mark withMark size sum isSet bit setBit termOf wordOf messageAt refusalOf findOf addOf place wordIn withWord entered sendOf applied present stays kept written requestIn replyIn ticketIn authenticatorIn deliveryIn confirmationIn ofKind layer _▸_
+unfolding called stepped decision decided stepOf opensRun issues authenticates takes finishes ticks queries admission inputRefusal usesTable inRange needTable runAt setRun derivableOf composesOf saturateOf descend layers sweepOf visitOf marked mark withMark size sum isSet bit setBit termOf wordOf messageAt refusalOf findOf addOf place wordIn withWord entered sendOf applied present stays kept written requestIn forms grantIn ticketIn authenticatorIn deliveryIn confirmationIn ofKind layer _▸_
 cases = refl
 
 -- the tables that they start from hold together
 pub cases-start : map (λ c. together (c .start)) table ≡ replicate (length table) true
-unfolding together headerFits holds stands refusalOf findOf rowsHold each rowHolds wireHolds within clear entriesHold marked mark isSet bit termOf wordOf
+unfolding together realmFits headerFits holds stands refusalOf findOf rowsHold each rowHolds wireHolds within clear entriesHold marked mark isSet bit termOf wordOf
 cases-start = refl

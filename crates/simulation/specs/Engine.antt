@@ -24,8 +24,8 @@ use Rattle.traces.specs.Logs.{OnWire, sent as on-wire}
 use Rattle.traces.specs.Realm.{Realm}
 use Rattle.traces.specs.RuleSets.{Reading, empty, read, Taken}
 use Rattle.kerberos.specs.Log.{Event, Act, Log}
-use Rattle.kerberos.specs.Messages.{parallel}
-use Rattle.kerberos.specs.Reading.{HD}
+use Rattle.exchange.specs.Forms.{formOf}
+use Rattle.kerberos.specs.Reading.{setOf}
 use Rattle.kerberos.specs.Rules.{Takes}
 use Rattle.kerberos.specs.Theorems.{rules-read}
 use Rattle.realm.specs.declared.input.Step.{Step}
@@ -55,12 +55,12 @@ use Rattle.simulation.specs.Kept.{step-sends, call-kept}
 pub record Follows (R : Realm) (t : Tables) (ρ : Reading Event) : Type 0 where
   pub header-is : header (t .realm) ≡ R
   pub together : Together t
-  pub agrees : Agrees HD R (valuesOf t) ρ
+  pub agrees : Agrees (setOf R) R (valuesOf R t) ρ
 
 -- the part of it that is about the reading
 pub record Matches (R : Realm) (t : Tables) (ρ : Reading Event) : Type 0 where
   pub header-is : header (t .realm) ≡ R
-  pub agrees : Agrees HD R (valuesOf t) ρ
+  pub agrees : Agrees (setOf R) R (valuesOf R t) ρ
 
 -- "A new hall has clock 0 and empty tables", whatever stands in the places
 pub record New (R : Realm) (t : Tables) : Type 0 where
@@ -73,7 +73,7 @@ pub record New (R : Realm) (t : Tables) : Type 0 where
 
 -- ---- a call that is refused
 
-kept : {R : Realm} {t : Tables} {ρ : Reading Event} (c : Call) → Follows R t ρ → Matches R t (read HD false c ρ)
+kept : {R : Realm} {t : Tables} {ρ : Reading Event} (c : Call) → Follows R t ρ → Matches R t (read (setOf R) false c ρ)
 kept {ρ = ρ} c f = record { header-is = f .header-is; agrees = refused-agrees ρ (f .agrees) }
 
 -- ---- a step
@@ -83,7 +83,7 @@ abbrev acted : Reading Event → Act → Reading Event
 acted ρ a = record { log = a ∷ ρ .log; terms = addAll (a .1) (ρ .terms) }
 
 module _ {R : Realm} {t : Tables} {ρ : Reading Event} (f : Follows R t ρ) (s : Step) where
-  by-verdict : (v : Verdict) → decision t s ≡ v → Matches R (byVerdict t v .tables) (read HD (accepts (byVerdict t v .answer)) (callOf s) ρ)
+  by-verdict : (v : Verdict) → decision t s ≡ v → Matches R (byVerdict t v .tables) (read (setOf R) (accepts (byVerdict t v .answer)) (callOf s) ρ)
   unfolding applied
   by-verdict (verdicts.Takes x) d =
       let p = decision-takes t s d .0 in
@@ -92,14 +92,14 @@ module _ {R : Realm} {t : Tables} {ρ : Reading Event} (f : Follows R t ρ) (s :
       (record { header-is = f .header-is; agrees = step-agrees (f .together) s p o (f .header-is) ρ (f .agrees) })
   by-verdict (verdicts.Refused k) d = kept (callOf s) f
 
-  pub step-matches : Matches R (stepped t s .tables) (read HD (accepts (stepped t s .answer)) (callOf s) ρ)
+  pub step-matches : Matches R (stepped t s .tables) (read (setOf R) (accepts (stepped t s .answer)) (callOf s) ρ)
   unfolding stepped
   step-matches = by-verdict (decision t s) refl
 
-  verdict-takes : (v : Verdict) → decision t s ≡ v → accepts (byVerdict t v .answer) ≡ true → Taken HD R ρ (callOf s)
+  verdict-takes : (v : Verdict) → decision t s ≡ v → accepts (byVerdict t v .answer) ≡ true → Taken (setOf R) R ρ (callOf s)
   verdict-takes (verdicts.Takes x) d a =
       let k = step-taken (f .together) s (decision-takes t s d .0) (step-sends t s d) (f .header-is) ρ (f .agrees) in
-      subst (Takes parallel R (ρ .terms) (ρ .log) (callOf s)) (sym (rules-read ρ k)) k
+      subst (Takes (formOf (R .rules)) R (ρ .terms) (ρ .log) (callOf s)) (sym (rules-read ρ k)) k
   verdict-takes (verdicts.Refused k) d a = no-true a
 
 -- ---- a term
@@ -107,7 +107,7 @@ module _ {R : Realm} {t : Tables} {ρ : Reading Event} (f : Follows R t ρ) (s :
 module _ {R : Realm} {t : Tables} {ρ : Reading Event} (f : Follows R t ρ) (kind l r : ℕ) (size : Sized (calls.Term kind l r)) where
   by-adding : (a : terms.TermAnswer) (count : ℕ) (ts : List ℕ)
       → addOf (t .realm .n) (t .terms) (t .realm .terms) (packed kind l r) ≡ record { answer = a; count = count; table = ts }
-      → let o = withAdding t (adding (t .realm) (record { answer = a; count = count; table = ts })) in Matches R (o .tables) (read HD (accepts (o .answer)) (calls.Term kind l r) ρ)
+      → let o = withAdding t (adding (t .realm) (record { answer = a; count = count; table = ts })) in Matches R (o .tables) (read (setOf R) (accepts (o .answer)) (calls.Term kind l r) ρ)
   by-adding (terms.number i) count ts e =
       rw (number-accepts i (count - t .realm .terms)) (record { header-is = f .header-is; agrees = term-agrees (f .together) kind l r size e ρ (f .agrees) (f .header-is) })
   by-adding (terms.refused k) count ts e =
@@ -116,23 +116,23 @@ module _ {R : Realm} {t : Tables} {ρ : Reading Event} (f : Follows R t ρ) (kin
 
   adding-takes : (a : terms.TermAnswer) (count : ℕ) (ts : List ℕ)
       → addOf (t .realm .n) (t .terms) (t .realm .terms) (packed kind l r) ≡ record { answer = a; count = count; table = ts }
-      → accepts (withAdding t (adding (t .realm) (record { answer = a; count = count; table = ts })) .answer) ≡ true → Taken HD R ρ (calls.Term kind l r)
+      → accepts (withAdding t (adding (t .realm) (record { answer = a; count = count; table = ts })) .answer) ≡ true → Taken (setOf R) R ρ (calls.Term kind l r)
   adding-takes (terms.number i) count ts e a = term-takes (f .together) kind l r size e ρ (f .agrees) (f .header-is)
   adding-takes (terms.refused k) count ts e a = no-true a
 
 -- ---- any call
 
-pub call-matches : {R : Realm} (t : Tables) (ρ : Reading Event) (c : Call) → Sized c → Follows R t ρ → Matches R (called t c .tables) (read HD (accepts (called t c .answer)) c ρ)
+pub call-matches : {R : Realm} (t : Tables) (ρ : Reading Event) (c : Call) → Sized c → Follows R t ρ → Matches R (called t c .tables) (read (setOf R) (accepts (called t c .answer)) c ρ)
 unfolding called
 call-matches t ρ (calls.Term kind l r) size f = by-adding f kind l r size _ _ _ refl
 call-matches t ρ (calls.Step step run a b m time) size f = step-matches f (record { step = step; run = run; a = a; b = b; m = m; t = time })
 
-pub call-follows : {R : Realm} (t : Tables) (ρ : Reading Event) (c : Call) → Sized c → Follows R t ρ → Follows R (called t c .tables) (read HD (accepts (called t c .answer)) c ρ)
+pub call-follows : {R : Realm} (t : Tables) (ρ : Reading Event) (c : Call) → Sized c → Follows R t ρ → Follows R (called t c .tables) (read (setOf R) (accepts (called t c .answer)) c ρ)
 call-follows t ρ c size f =
     let m = call-matches t ρ c size f in
     record { header-is = m .header-is; together = call-kept t c size (f .together); agrees = m .agrees }
 
-pub call-takes : {R : Realm} (t : Tables) (ρ : Reading Event) (c : Call) → Sized c → Follows R t ρ → accepts (called t c .answer) ≡ true → Taken HD R ρ c
+pub call-takes : {R : Realm} (t : Tables) (ρ : Reading Event) (c : Call) → Sized c → Follows R t ρ → accepts (called t c .answer) ≡ true → Taken (setOf R) R ρ c
 unfolding called stepped
 call-takes t ρ (calls.Term kind l r) size f a = adding-takes f kind l r size _ _ _ refl a
 call-takes t ρ (calls.Step step run x y m time) size f a =
@@ -161,7 +161,7 @@ none = []
 none-sent : {m : Message} → OnWire none m → ⊥
 none-sent (on-wire i j) = elim i [ ]
 
-pub new-follows : {R : Realm} {t : Tables} → New R t → Follows R t (empty HD)
+pub new-follows : {R : Realm} {t : Tables} → New R t → Follows R t (empty (setOf R))
 unfolding meanings rowsOf
 new-follows {t = t} n =
     record {
@@ -178,14 +178,14 @@ new-follows {t = t} n =
 
 -- ---- the engine
 
-abbrev pub engineOf : (R : Realm) (t : Tables) → New R t → Engine HD R
+abbrev pub engineOf : (R : Realm) (t : Tables) → New R t → Engine (setOf R) R
 engineOf R t n =
     record {
       State = Tables;
       start = t;
       answer = λ s c. called s c .answer;
       next = λ s c. called s c .tables;
-      tables = valuesOf;
+      tables = valuesOf R;
       Fits = Follows R;
       agrees = λ s ρ f. f .agrees;
       fits-start = new-follows n;

@@ -17,7 +17,7 @@ use Rattle.deduction.specs.Known.{Known}
 use Rattle.sending.specs.Send.{sent, sendOf, SentIs}
 use Rattle.sending.specs.Promises.{send-accepted}
 use Rattle.kerberos.specs.Log.{Event, Nothing}
-use Rattle.kerberos.specs.Reading.{HD}
+use Rattle.kerberos.specs.Reading.{setOf}
 use Rattle.traces.specs.Engines.{Values, Agrees}
 use Rattle.kerberos.specs.Log.{clock, runs, runsAfter, cacheAfter}
 use Rattle.traces.specs.RuleSets.{Reading}
@@ -66,6 +66,7 @@ module _ {t : Tables} (w : Together t) {count : ℕ} {ts ws : List ℕ} (g : Gro
         let c = entries-kept w (x .keeping) f in
         record {
           header-fits = w .header-fits;
+          rules-known = w .rules-known;
           clock-fits = clock;
           terms-hold = g .valid;
           rows-hold = rows-kept small rows-more (x .change) h;
@@ -76,27 +77,27 @@ module _ {t : Tables} (w : Together t) {count : ℕ} {ts ws : List ℕ} (g : Gro
           entries-fit = c .each;
         }
 
-    pub next-agrees : {R : Realm} → header (t .realm) ≡ R → (ρ : Reading Event) → Agrees HD R (valuesOf t) ρ → (e : Event) → Mirrors (t .realm .clock) e x
+    pub next-agrees : {R : Realm} → header (t .realm) ≡ R → (ρ : Reading Event) → Agrees (setOf R) R (valuesOf R t) ρ → (e : Event) → Mirrors (t .realm .clock) e x
         → {terms : List Message} → meanings ts count ≡ terms
-        → ((m : Message) → Known ts count ws m ↔ (Known (t .terms) (t .realm .terms) (t .wire) m ⊎ List·Memᴰ m (messagesOf (x .sends))))
-        → Agrees HD R (valuesOf (nextTables t x count ts ws)) (record { log = (e, messagesOf (x .sends)) ∷ ρ .log; terms = terms })
+        → ((m : Message) → Known ts count ws m ↔ (Known (t .terms) (t .realm .terms) (t .wire) m ⊎ List·Memᴰ m (messagesOf (t .terms) (x .sends))))
+        → Agrees (setOf R) R (valuesOf R (nextTables t x count ts ws)) (record { log = (e, messagesOf (t .terms) (x .sends)) ∷ ρ .log; terms = terms })
     next-agrees {R} is ρ a e mirrors same grown =
         let now : Mirrors (clock (ρ .log)) e x = subst (λ (k : ℕ). Mirrors k e x) (a .clock-is) mirrors in
         record {
           clock-is = now .clock;
           runs-are = rows-follow small rows-more (x .change) h (runsAfter e) (mirrors .rows) (runs (ρ .log)) (a .runs-are);
           terms-are = same;
-          wire-is = wire-follows (Known (t .terms) (t .realm .terms) (t .wire)) (Known ts count ws) (ρ .log) e (messagesOf (x .sends)) (a .wire-is) grown;
+          wire-is = wire-follows (Known (t .terms) (t .realm .terms) (t .wire)) (Known ts count ws) (ρ .log) e (messagesOf (t .terms) (x .sends)) (a .wire-is) grown;
           cache-is = entries-follow (t .realm) (t .cache) is (a .clock-is) (a .cache-is) (x .keeping) (cacheAfter R (clock (ρ .log)) e) (now .cache R);
         }
 
 -- ---- an effect
 
 module _ {t : Tables} (w : Together t) (x : Effect) (f : EffectFits t x) {count : ℕ} {ts ws : List ℕ}
-    (s : sendOf (t .terms) (t .wire) (t .realm .terms) (messagesOf (x .sends)) ≡ sent count ts ws) where
-  sent-is : SentIs (t .realm .n) (t .terms) (t .wire) (t .realm .terms) (messagesOf (x .sends)) ts ws count
+    (s : sendOf (t .terms) (t .wire) (t .realm .terms) (messagesOf (t .terms) (x .sends)) ≡ sent count ts ws) where
+  sent-is : SentIs (t .realm .n) (t .terms) (t .wire) (t .realm .terms) (messagesOf (t .terms) (x .sends)) ts ws count
   sent-is =
-      send-accepted (t .realm .n) (omega (arith, w .header-fits .most)) (w .terms-hold) (t .wire) (messagesOf (x .sends)) (f .writes) (w .wire-words) (w .wire-within) s
+      send-accepted (t .realm .n) (omega (arith, w .header-fits .most)) (w .terms-hold) (t .wire) (messagesOf (t .terms) (x .sends)) (f .writes) (w .wire-words) (w .wire-within) s
 
   sent-grows : Grows t count ts ws
   sent-grows =
@@ -108,19 +109,19 @@ module _ {t : Tables} (w : Together t) (x : Effect) (f : EffectFits t x) {count 
   pub effect-together : x .clock < 2 ^ 32 → Together (nextTables t x count ts ws)
   effect-together clock = next-together w sent-grows x (f .entry) row-holds clock
 
-  pub effect-agrees : {R : Realm} → header (t .realm) ≡ R → (ρ : Reading Event) → Agrees HD R (valuesOf t) ρ → (e : Event) → Mirrors (t .realm .clock) e x
-      → Agrees HD R (valuesOf (nextTables t x count ts ws)) (record { log = (e, messagesOf (x .sends)) ∷ ρ .log; terms = addAll (messagesOf (x .sends)) (ρ .terms) })
+  pub effect-agrees : {R : Realm} → header (t .realm) ≡ R → (ρ : Reading Event) → Agrees (setOf R) R (valuesOf R t) ρ → (e : Event) → Mirrors (t .realm .clock) e x
+      → Agrees (setOf R) R (valuesOf R (nextTables t x count ts ws)) (record { log = (e, messagesOf (t .terms) (x .sends)) ∷ ρ .log; terms = addAll (messagesOf (t .terms) (x .sends)) (ρ .terms) })
   effect-agrees is ρ a e mirrors =
-      next-agrees w sent-grows x (f .entry) row-holds is ρ a e mirrors (sent-is .added ∙ ap (addAll (messagesOf (x .sends))) (a .terms-are)) (sent-is .wire)
+      next-agrees w sent-grows x (f .entry) row-holds is ρ a e mirrors (sent-is .added ∙ ap (addAll (messagesOf (t .terms) (x .sends))) (a .terms-are)) (sent-is .wire)
 
   -- its terms all fit, as the rules ask
-  pub effect-fits : (ρ : Reading Event) → meanings (t .terms) (t .realm .terms) ≡ ρ .terms → TermsFit (messagesOf (x .sends)) (ρ .terms)
-  effect-fits ρ same = subst (TermsFit (messagesOf (x .sends))) same (sent-is .fits)
+  pub effect-fits : (ρ : Reading Event) → meanings (t .terms) (t .realm .terms) ≡ ρ .terms → TermsFit (messagesOf (t .terms) (x .sends)) (ρ .terms)
+  effect-fits ρ same = subst (TermsFit (messagesOf (t .terms) (x .sends))) same (sent-is .fits)
 
 -- ---- a call that is refused
 
 -- "State, wire, cache and terms stay unchanged."
-pub refused-agrees : {R : Realm} {t : Values HD} (ρ : Reading Event) → Agrees HD R t ρ → Agrees HD R t (record { log = (Nothing, []) ∷ ρ .log; terms = ρ .terms })
+pub refused-agrees : {R : Realm} {t : Values (setOf R)} (ρ : Reading Event) → Agrees (setOf R) R t ρ → Agrees (setOf R) R t (record { log = (Nothing, []) ∷ ρ .log; terms = ρ .terms })
 refused-agrees {t = t} ρ a =
     record {
       clock-is = a .clock-is;

@@ -26,10 +26,10 @@ use Rattle.effects.specs.Call.{byVerdict, stepped, called}
 use Rattle.effects.specs.Laws.Apply.{bySending}
 
 -- what is written, once it is known what came of sending
-pub applied-as : (t : Tables) (x : Effect) {count : ℕ} {ts ws : List ℕ} → fitsIn (t .terms) (t .realm .terms) (messagesOf (x .sends)) ≡ true
-    → sendOf (t .terms) (t .wire) (t .realm .terms) (messagesOf (x .sends)) ≡ sent count ts ws → applied t x ≡ appliedWith t x count ts ws
+pub applied-as : (t : Tables) (x : Effect) {count : ℕ} {ts ws : List ℕ} → fitsIn (t .terms) (t .realm .terms) (messagesOf (t .terms) (x .sends)) ≡ true
+    → sendOf (t .terms) (t .wire) (t .realm .terms) (messagesOf (t .terms) (x .sends)) ≡ sent count ts ws → applied t x ≡ appliedWith t x count ts ws
 unfolding applied
-applied-as t x f o = ap (bySending t x) (sym (send-room (t .terms) (t .wire) (t .realm .terms) (messagesOf (x .sends)) f) ∙ o)
+applied-as t x f o = ap (bySending t x) (sym (send-room (t .terms) (t .wire) (t .realm .terms) (messagesOf (t .terms) (x .sends)) f) ∙ o)
 
 queried : {t : Tables} {r a b m now : ℕ} {e : Event} {x : Effect} → Took t (calls.Step 10 r a b m now) e x → x ≡ nothing (t .realm .clock)
 queried (took10 d) = refl
@@ -40,13 +40,13 @@ leaked (took9 v) = refl
 module _ (t : Tables) (w : Together t) where
   -- an effect that is no more than this message's, or none's, and leaves what was sent as it was
   by-verdict : (s : Step) (x : Effect) → ((y : Effect) → decision t s ≡ verdicts.Takes y → y ≡ x)
-      → sendOf (t .terms) (t .wire) (t .realm .terms) (messagesOf (x .sends)) ≡ sent (t .realm .terms) (t .terms) (t .wire)
+      → sendOf (t .terms) (t .wire) (t .realm .terms) (messagesOf (t .terms) (x .sends)) ≡ sent (t .realm .terms) (t .terms) (t .wire)
       → appliedWith t x (t .realm .terms) (t .terms) (t .wire) .tables ≡ t
       → (v : Verdict) → decision t s ≡ v → byVerdict t v .tables ≡ t
   by-verdict s x is o idle (verdicts.Refused k) d = refl
   by-verdict s x is o idle (verdicts.Takes y) d =
       let same = is y d in
-      let fits = subst (λ (z : Effect). fitsIn (t .terms) (t .realm .terms) (messagesOf (z .sends)) ≡ true) same (decision-takes t s d .1) in
+      let fits = subst (λ (z : Effect). fitsIn (t .terms) (t .realm .terms) (messagesOf (t .terms) (z .sends)) ≡ true) same (decision-takes t s d .1) in
       ap (λ (z : Effect). applied t z .tables) same ∙ ap (λ (q : Outcome). q .tables) (applied-as t x fits o) ∙ idle
 
   pub query-kept : (r a b m now : ℕ) → called t (calls.Step 10 r a b m now) .tables ≡ t

@@ -30,9 +30,9 @@ use Rattle.effects.specs.Call.{adding, withAdding, byVerdict, stepped, called}
 
 -- the terms of a step that is taken fit, so its messages are sent
 pub step-sends : (t : Tables) (s : Step) {x : Effect} → decision t s ≡ verdicts.Takes x
-    → let ms = messagesOf (x .sends) in let xs = enteredAll (termsOf (t .terms) (t .realm .terms)) ms in
+    → let ms = messagesOf (t .terms) (x .sends) in let xs = enteredAll (termsOf (t .terms) (t .realm .terms)) ms in
     sendOf (t .terms) (t .wire) (t .realm .terms) ms ≡ sent (length xs) (over xs (t .terms)) (markedAll (t .wire) xs ms)
-step-sends t s {x} d = send-room (t .terms) (t .wire) (t .realm .terms) (messagesOf (x .sends)) (decision-takes t s d .1)
+step-sends t s {x} d = send-room (t .terms) (t .wire) (t .realm .terms) (messagesOf (t .terms) (x .sends)) (decision-takes t s d .1)
 
 module _ {t : Tables} (w : Together t) where
   by-verdict : (s : Step) → Sized (callOf s) → (v : Verdict) → decision t s ≡ v → Together (byVerdict t v .tables)

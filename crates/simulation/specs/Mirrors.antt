@@ -49,7 +49,7 @@ pub took-mirrors : {t : Tables} {c : Call} {e : Event} {x : Effect} → Took t c
 took-mirrors (took1 {a} {b} p l) = record { clock = refl; rows = (initiatorOpened a b, refl, λ old. refl); cache = λ R old. refl }
 took-mirrors (took2 {a} {b} p l) = record { clock = refl; rows = (responderOpened a b, refl, λ old. refl); cache = λ R old. refl }
 took-mirrors (took3 {n = n} d p l) = record { clock = refl; rows = (serverDone _ _ _ _ n, refl, λ old. refl); cache = λ R old. refl }
-took-mirrors (took4 v d i) = record { clock = refl; rows = (initiatorAuthenticated _ _ _ _ _, refl, λ old. refl); cache = λ R old. refl }
+took-mirrors (took4 v d c i) = record { clock = refl; rows = (initiatorAuthenticated _ _ _ _ _, refl, λ old. refl); cache = λ R old. refl }
 took-mirrors (took5 v d i) = record { clock = refl; rows = (responderDone _ _ _ _ _, refl, λ old. refl); cache = λ R old. refl }
 took-mirrors (took6 v d i) = record { clock = refl; rows = (initiatorDone _ _ _ _ _, refl, λ old. refl); cache = λ R old. refl }
 took-mirrors (took7 h) = record { clock = refl; rows = λ old. refl; cache = λ R old. refl }

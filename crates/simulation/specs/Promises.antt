@@ -22,15 +22,16 @@ use Rattle.traces.specs.Promises.{tables-agree}
 use Rattle.traces.specs.Realm.{Realm, HeaderPasses}
 use Rattle.traces.specs.RuleSets.{Reading, reading}
 use Rattle.traces.specs.Terms.{messageFrom}
-use Rattle.kerberos.specs.Agreement.{Demand3}
+use Rattle.kerberos.specs.Agreement.{Demand3, Secrecy}
 use Rattle.kerberos.specs.Entries.{Entries}
 use Rattle.kerberos.specs.Log.{Event, Act, clock}
-use Rattle.kerberos.specs.Messages.{parallel}
-use Rattle.kerberos.specs.Reading.{HD, Lawful}
+use Rattle.exchange.specs.Forms.{formOf}
+use Rattle.kerberos.specs.Reading.{setOf, Lawful}
 use Rattle.kerberos.specs.Rules.{Takes}
 use Rattle.kerberos.specs.Theorems as kerberos
 use Rattle.kerberos.specs.Theorems.{engine-lawful}
 use Rattle.realm.specs.Check.{together, is-together}
+use Rattle.realm.specs.Opening.{header}
 use Rattle.realm.specs.Tables.{Tables, Together}
 use Rattle.effects.specs.Call.{called, checked}
 use Rattle.simulation.specs.Ahead as ahead
@@ -48,21 +49,25 @@ use Rattle.simulation.specs.Unread.{Alike, answers-alike, tables-alike}
 use Rattle.simulation.specs.Values.{valuesOf}
 
 -- In every list of calls, each with any fields, from a new realm under any header that refusal 2 lets pass, each accepted call is one
--- that the rules take. So demand 3 holds of it, and what is promised of the entries of the replay cache.
-pub lawful-calls : (R : Realm) (t : Tables) (new : New R t) (cs : List Call) → AllSized cs → Lawful parallel R (history HD R (engineOf R t new) cs)
+-- that the rules take. So demand 3 holds of it, the secrecy of an unleaked key, and what is promised of the entries of the replay cache,
+-- under each rule set.
+pub lawful-calls : (R : Realm) (t : Tables) (new : New R t) (cs : List Call) → AllSized cs → Lawful (formOf (R .rules)) R (history (setOf R) R (engineOf R t new) cs)
 lawful-calls R t new cs size =
-    engine-lawful parallel R (subst HeaderPasses (new .header-is) (new .together .header-fits)) (engineOf R t new) cs size
+    engine-lawful (formOf (R .rules)) R (subst HeaderPasses (new .header-is) (new .together .header-fits)) (engineOf R t new) cs size
 
-pub demand3 : (R : Realm) (t : Tables) (new : New R t) (cs : List Call) → AllSized cs → Demand3 parallel R (history HD R (engineOf R t new) cs)
-demand3 R t new cs size = kerberos.demand3 parallel R (history HD R (engineOf R t new) cs) (lawful-calls R t new cs size)
+pub demand3 : (R : Realm) (t : Tables) (new : New R t) (cs : List Call) → AllSized cs → Demand3 (formOf (R .rules)) R (history (setOf R) R (engineOf R t new) cs)
+demand3 R t new cs size = kerberos.demand3 (formOf (R .rules)) R (history (setOf R) R (engineOf R t new) cs) (lawful-calls R t new cs size)
 
-pub entries : (R : Realm) (t : Tables) (new : New R t) (cs : List Call) → AllSized cs → Entries parallel R (history HD R (engineOf R t new) cs)
-entries R t new cs size = kerberos.entries parallel R (history HD R (engineOf R t new) cs) (lawful-calls R t new cs size)
+pub secret-keys : (R : Realm) (t : Tables) (new : New R t) (cs : List Call) → AllSized cs → Secrecy (formOf (R .rules)) R (history (setOf R) R (engineOf R t new) cs)
+secret-keys R t new cs size = kerberos.secret-keys (formOf (R .rules)) R (history (setOf R) R (engineOf R t new) cs) (lawful-calls R t new cs size)
+
+pub entries : (R : Realm) (t : Tables) (new : New R t) (cs : List Call) → AllSized cs → Entries (formOf (R .rules)) R (history (setOf R) R (engineOf R t new) cs)
+entries R t new cs size = kerberos.entries (formOf (R .rules)) R (history (setOf R) R (engineOf R t new) cs) (lawful-calls R t new cs size)
 
 -- "After each call the runs, the clock and the wire in the tables agree with these readings", and so do terms and cache.
 pub tables-follow : (R : Realm) (t : Tables) (new : New R t) (cs : List Call) → AllSized cs
-    → Agrees HD R (valuesOf (after HD R (engineOf R t new) cs)) (reading HD (history HD R (engineOf R t new) cs))
-tables-follow R t new cs size = tables-agree HD R (engineOf R t new) cs size
+    → Agrees (setOf R) R (valuesOf R (after (setOf R) R (engineOf R t new) cs)) (reading (setOf R) (history (setOf R) R (engineOf R t new) cs))
+tables-follow R t new cs size = tables-agree (setOf R) R (engineOf R t new) cs size
 
 -- Where the tables follow a reading, a call is accepted exactly where the rules take it, and its answer is told by the reading: a step's
 -- is the run of its event and how many terms it added, a term's its place and whether it is new.
@@ -70,15 +75,15 @@ pub accepted-exact : (R : Realm) (t : Tables) (ρ : Reading Event) → Follows R
 accepted-exact R t ρ f c size = exact.accepted-exact t ρ f c size
 
 pub step-answer : (R : Realm) (t : Tables) (ρ : Reading Event) → Follows R t ρ → (step r a b m now : ℕ) {act : Act}
-    → Takes parallel R (ρ .terms) (ρ .log) (Step step r a b m now) act → called t (Step step r a b m now) .answer ≡ stepTold (ρ .terms) act
+    → Takes (formOf (R .rules)) R (ρ .terms) (ρ .log) (Step step r a b m now) act → called t (Step step r a b m now) .answer ≡ stepTold (ρ .terms) act
 step-answer R t ρ f step r a b m now k = exact.step-answer t ρ f step r a b m now k
 
 pub term-answer : (R : Realm) (t : Tables) (ρ : Reading Event) → Follows R t ρ → (kind x y : ℕ) → Sized (Term kind x y) → {act : Act} {m : Message}
-    → Takes parallel R (ρ .terms) (ρ .log) (Term kind x y) act → messageFrom (ρ .terms) kind x y ≡ some m → called t (Term kind x y) .answer ≡ termTold 0 (ρ .terms) m
+    → Takes (formOf (R .rules)) R (ρ .terms) (ρ .log) (Term kind x y) act → messageFrom (ρ .terms) kind x y ≡ some m → called t (Term kind x y) .answer ≡ termTold 0 (ρ .terms) m
 term-answer R t ρ f kind x y size k made = exact.term-answer t ρ f kind x y size k made
 
 -- Whatever it is answered, the reading's table grows by as many terms as the answer tells.
-pub terms-grow : (R : Realm) (t : Tables) (ρ : Reading Event) → Follows R t ρ → (c : Call) → Sized c → GrowsBy ρ c (called t c .answer)
+pub terms-grow : (R : Realm) (t : Tables) (ρ : Reading Event) → Follows R t ρ → (c : Call) → Sized c → GrowsBy R ρ c (called t c .answer)
 terms-grow R t ρ f c size = told.terms-grow f c size
 
 -- 15 is given exactly where the step can have it, nothing before it applies, and the intruder cannot deliver m.
@@ -101,7 +106,7 @@ pub query-kept : (t : Tables) → Together t → (r a b m now : ℕ) → called 
 query-kept t w r a b m now = idle.query-kept t w r a b m now
 
 -- and a leak of a key that is on the wire changes nothing: "leaking it again changes nothing".
-pub leak-kept : (t : Tables) → Together t → (r a b m now : ℕ) → valuesOf t .wire (key (session r)) → called t (Step 9 r a b m now) .tables ≡ t
+pub leak-kept : (t : Tables) → Together t → (r a b m now : ℕ) → valuesOf (header (t .realm)) t .wire (key (session r)) → called t (Step 9 r a b m now) .tables ≡ t
 leak-kept t w r a b m now k = idle.leak-kept t w r a b m now k
 
 -- "Places at or past a table's count are never read": tables that are alike below the counts have the same answer, and stay alike.

@@ -8,6 +8,7 @@ use mathlib.Core.Option.{some, Option·some-injective}
 use native.Mathlib.Omega.{arith}
 use lib.ListN.{length, length-map, getElem?}
 use lib.Seq.{length-take-le}
+use Rattle.terms.specs.Meaning.{messageAt}
 use Rattle.terms.specs.Message.{Message, session, key}
 use Rattle.deduction.specs.Promises.{monotone}
 use Rattle.messages.specs.Listed.{termAt}
@@ -30,7 +31,8 @@ use Rattle.traces.specs.Lists.{_∈_}
 use Rattle.kerberos.specs.Log.{Log, clock, runs, run, next, cache, stored}
 use Rattle.traces.specs.RuleSets.{Entry, entry}
 use Rattle.kerberos.specs.Log.{Run, initiatorOpened, initiatorAuthenticated, responderOpened}
-use Rattle.kerberos.specs.Messages.{parallel, request, issue, grant, presented}
+use Rattle.exchange.specs.Forms.{formOf}
+use Rattle.kerberos.specs.Messages.{request, issue, grant, presented}
 use Rattle.exchange.specs.Needs.{isAt}
 use Rattle.traces.specs.RuleSets.{Reading}
 use Rattle.traces.specs.Realm.{Realm}
@@ -40,11 +42,11 @@ use Rattle.traces.specs.Terms.{TermsFit}
 use Rattle.realm.specs.Opening.{header}
 use Rattle.decisions.specs.declared.Effect.{Effect}
 use Rattle.decisions.specs.Effects.{messagesOf}
-use Rattle.kerberos.specs.Reading.{HD}
+use Rattle.kerberos.specs.Reading.{setOf}
 use Rattle.simulation.specs.Cached.{absent-logged}
 use Rattle.realm.specs.Tables.{Tables, Together}
 use Rattle.simulation.specs.Values.{logged, valuesOf}
-use Rattle.decisions.specs.Laws.Took.{rowAt, Meets, Brings, Took, took1, took2, took3, took4, took5, took6, took7, took8, took9, took10}
+use Rattle.decisions.specs.Laws.Took.{formAt, rowAt, Meets, Brings, Took, took1, took2, took3, took4, took5, took6, took7, took8, took9, took10}
 
 -- ---- the run that a row is stored from
 
@@ -73,27 +75,27 @@ authenticated own at-initiatorAuthenticated e = rw (← e) refl
 
 module _ {R : Realm} {terms : List Message} {l : Log} where
   by1 : {a b : ℕ} (r : ℕ) → r ≡ next l → PrincipalsFit (R .n) a b → r < 64 → TermsFit (request a b r ∷ []) terms
-      → Takes parallel R terms l (Step 1 0 a b 0 0) (Initiate r a b, request a b r ∷ [])
+      → Takes (formOf (R .rules)) R terms l (Step 1 0 a b 0 0) (Initiate r a b, request a b r ∷ [])
   by1 r q p room f = rw q (takes1 (p .a-below, p .b-below) (p .apart) (rw q at room) (rw q at f))
 
-  by2 : {a b : ℕ} (r : ℕ) → r ≡ next l → PrincipalsFit (R .n) a b → r < 64 → Takes parallel R terms l (Step 2 0 a b 0 0) (Respond r a b, [])
+  by2 : {a b : ℕ} (r : ℕ) → r ≡ next l → PrincipalsFit (R .n) a b → r < 64 → Takes (formOf (R .rules)) R terms l (Step 2 0 a b 0 0) (Respond r a b, [])
   by2 r q p room = rw q (takes2 (p .a-below, p .b-below) (p .apart) (rw q at room))
 
   by3 : {m a b n : ℕ} (r now : ℕ) → r ≡ next l → now ≡ clock l → Delivers R terms l m (request a b n) → Apart a b → r < 64
-      → TermsFit (issue parallel r a b now n) terms → Takes parallel R terms l (Step 3 0 0 0 m 0) (Issue r a b now n, issue parallel r a b now n)
+      → let f = formOf (R .rules) in TermsFit (issue f r a b now n) terms → Takes f R terms l (Step 3 0 0 0 m 0) (Issue r a b now n, issue f r a b now n)
   by3 r now q c d p room f = rw (q, c) (takes3 d p (rw q at room) (rw (q, c) at f))
 
-  by4 : {r m a b k ts : ℕ} (now : ℕ) → now ≡ clock l → run l r ≡ some (initiatorOpened a b) → Delivers R terms l m (grant parallel k b ts r a)
-      → now < ts + R .ticketLife → TermsFit (presented parallel a now k) terms
-      → Takes parallel R terms l (Step 4 r 0 0 m 0) (Authenticate r a b k ts now, presented parallel a now k)
-  by4 now c e d i f = rw c (takes4 e d refl (rw c at i) (rw c at f))
+  by4 : {r m a b k ts : ℕ} (now : ℕ) (x : Message) → now ≡ clock l → run l r ≡ some (initiatorOpened a b) → let f = formOf (R .rules) in
+      Delivers R terms l m (grant f k b ts r a x) → now < ts + R .ticketLife → TermsFit (presented f a now k x) terms
+      → Takes f R terms l (Step 4 r 0 0 m 0) (Authenticate r a b k ts now, presented f a now k x)
+  by4 now x c e d i f = rw c (takes4 x e d refl (rw c at i) (rw c at f))
 
-  by9 : {r : ℕ} {x : Run} → At Server Done x → run l r ≡ some x → Takes parallel R terms l (Step 9 r 0 0 0 0) (Leak r, key (session r) ∷ [])
+  by9 : {r : ℕ} {x : Run} → At Server Done x → run l r ≡ some x → Takes (formOf (R .rules)) R terms l (Step 9 r 0 0 0 0) (Leak r, key (session r) ∷ [])
   by9 at-serverDone e = takes9 e
 
 -- ---- a step that was taken
 
-module _ (t : Tables) (ρ : Reading Event) (fits : Together t) (g : Agrees HD (header (t .realm)) (valuesOf t) ρ) where
+module _ (t : Tables) (ρ : Reading Event) (fits : Together t) (g : Agrees (setOf (header (t .realm))) (header (t .realm)) (valuesOf (header (t .realm)) t) ρ) where
   -- the next run has the number of the count
   pub next-is : t .realm .runs ≡ next (ρ .log)
   next-is = sym (rows-length (t .runs) (t .realm .runs)) ∙ ap length (g .runs-are) ∙ length-map (runs (ρ .log)) stored
@@ -122,13 +124,13 @@ module _ (t : Tables) (ρ : Reading Event) (fits : Together t) (g : Agrees HD (h
       subst (λ (c : List Entry). ¬ (entry b k ta ∈ c)) (g .cache-is)
       (absent-logged (entries (t .cache) (t .realm .entries)) (record { b = b; k = k; ta = ta }) e)
 
-  pub taken : {c : Call} {e : Event} {x : Effect} → Took t c e x → TermsFit (messagesOf (x .sends)) (ρ .terms)
-      → Takes parallel (header (t .realm)) (ρ .terms) (ρ .log) c (e, messagesOf (x .sends))
+  pub taken : {c : Call} {e : Event} {x : Effect} → Took t c e x → TermsFit (messagesOf (t .terms) (x .sends)) (ρ .terms)
+      → Takes (formAt t) (header (t .realm)) (ρ .terms) (ρ .log) c (e, messagesOf (t .terms) (x .sends))
   taken (took1 p room) f = by1 (t .realm .runs) next-is p room f
   taken (took2 p room) f = by2 (t .realm .runs) next-is p room
   taken (took3 d p room) f = by3 (t .realm .runs) (t .realm .clock) next-is (g .clock-is) (delivers d) p room f
-  taken (took4 w d i) f =
-      by4 (t .realm .clock) (g .clock-is) (from-log w .is ∙ ap some (opened-initiator _ (at-log w) (from-log w .as-row))) (delivers d) i f
+  taken (took4 {x = x} w d c i) f =
+      by4 (t .realm .clock) (messageAt (t .terms) x) (g .clock-is) (from-log w .is ∙ ap some (opened-initiator _ (at-log w) (from-log w .as-row))) (delivers d) i f
   taken (took5 w d i) f =
       takes5 (from-log w .is ∙ ap some (opened-responder _ (at-log w) (from-log w .as-row))) (delivers d) (omega (arith, g .clock-is, i .timely .ticket-lives))
       (omega (arith, g .clock-is, i .timely .authenticator-lives)) (omega (arith, g .clock-is, i .timely .not-ahead)) (not-cached (i .absent)) (omega (arith, cache-length, i .room)) f

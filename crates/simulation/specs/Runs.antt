@@ -7,13 +7,9 @@ use mathlib.Core.List.{List, [], _∷_, _++_, map, map-append}
 use native.Mathlib.Numerals.{add-one}
 use native.Mathlib.Omega.{arith}
 use lib.ListN.{length, set, getD}
-use Rattle.words.specs.declared.Term.the-variants.{Pair, Encrypted, SessionKey}
-use Rattle.terms.specs.Meaning.{messageAt, message-at, pair-inv, encrypted-inv}
-use Rattle.terms.specs.Message.{Key, Message, session, key, pair, encrypted}
+use Rattle.terms.specs.Message.{Message, session, key}
 use Rattle.terms.specs.Number.{wordIn, word-at, termsOf, terms-length, terms-agree, terms-list}
-use Rattle.terms.specs.Rules.{termAt, Fields}
-use Rattle.terms.specs.Valid.{Terms, Valid, fields-at}
-use Rattle.words.specs.Word.{wordOf}
+use Rattle.terms.specs.Valid.{Valid}
 use Rattle.messages.specs.Standing.{Standing}
 use Rattle.sending.specs.Send.{SentIs}
 use Rattle.exchange.specs.declared.run.Row.{Row}
@@ -29,6 +25,7 @@ use Rattle.decisions.specs.declared.Change.the-variants as changes
 use Rattle.effects.specs.Row.{changed, runCount}
 use Rattle.simulation.specs.Mirrors.{RowMirrors}
 use Rattle.decisions.specs.Laws.Fits.{RowFits, RowReady}
+use Rattle.decisions.specs.Laws.Parts.{Part, part-stands}
 
 -- ---- one row
 
@@ -63,27 +60,19 @@ module _ (n : ℕ) (ts : List ℕ) (present count : ℕ) where
   ChangeHolds (changes.Set r x) = (r < count) × RunHolds n ts present r x
   ChangeHolds changes.Nothing = Unit {0}
 
--- the first part of an encrypted pair is a term, here a session key
-module _ {n : ℕ} {xs : List ℕ} (v : Terms n xs (length xs)) where
-  key-part : {k : ℕ} {m : Message} {under : Key} {i : ℕ} → Standing xs (encrypted (pair (key (session k)) m) under) i
-      → (l : ℕ) × (l < length xs) × (getD xs l 0 ≡ wordOf (SessionKey k))
-  unfolding wordIn
-  key-part {i = i} s =
-      let p = encrypted-inv (messageAt xs) (termAt xs i) (sym (message-at v i (s .below)) ∙ s .means) in
-      let f : Fields n xs i (Encrypted (p .0) (p .1)) = subst (Fields n xs i) (p .2) (fields-at v i (s .below)) in
-      let b : p .0 < length xs = omega (arith, f .0, s .below) in
-      let q = pair-inv (messageAt xs) (termAt xs (p .0)) (sym (message-at v (p .0) b) ∙ p .3) in
-      let g : Fields n xs (p .0) (Pair (q .0) (q .1)) = subst (Fields n xs (p .0)) (q .2) (fields-at v (p .0) b) in
-      let l : q .0 < length xs = omega (arith, g .0, b) in
-      (q .0, l, sym (word-at xs v (q .0) l) ∙ ap (wordIn xs) (q .3))
-
--- the session key of a reply that was sent
-key-sent : {n : ℕ} {ts : List ℕ} {count : ℕ} → Valid n ts count → {k : ℕ} {m : Message} {under : Key} {i : ℕ}
-    → Standing (termsOf ts count) (encrypted (pair (key (session k)) m) under) i → KeyStands ts count k
-key-sent {ts = ts} {count} v s =
-    let p = key-part (terms-list v) s in
-    let below : p .0 < count = omega (arith, p .1, terms-length v) in
-    record { place = p .0; below = below; here = terms-agree v (p .0) below ∙ p .2 }
+-- the session key of a message that was sent
+key-sent : {n : ℕ} {ts : List ℕ} {count : ℕ} → Valid n ts count → {k : ℕ} {m : Message} {i : ℕ} → Part (key (session k)) m
+    → Standing (termsOf ts count) m i → KeyStands ts count k
+unfolding wordIn
+key-sent {ts = ts} {count} v {k} {i = i} p s =
+    let q = part-stands (terms-list v) p i (s .below) (s .means) in
+    let l : q .place < length (termsOf ts count) = omega (arith, q .by, s .below) in
+    let below : q .place < count = omega (arith, l, terms-length v) in
+    record {
+      place = q .place;
+      below = below;
+      here = terms-agree v (q .place) below ∙ sym (word-at (termsOf ts count) (terms-list v) (q .place) l) ∙ ap (wordIn (termsOf ts count)) (q .means);
+    }
 
 module _ (t : Tables) {ms : List Message} {ts ws : List ℕ} {count : ℕ} (s : SentIs (t .realm .n) (t .terms) (t .wire) (t .realm .terms) ms ts ws count) where
   row-holds : {r : ℕ} {x : Row} → RowFits (t .realm .n) ms r x → RunHolds (t .realm .n) ts count r x
@@ -92,7 +81,7 @@ module _ (t : Tables) {ms : List Message} {ts ws : List ℕ} {count : ℕ} (s : 
         stage = f .stage;
         principals = f .principals;
         key = f .key;
-        server = λ e. let q = f .server e in (q .0, key-sent (s .valid) (s .each _ (q .1 .among)));
+        server = λ e. let q = f .server e in (q .0, key-sent (s .valid) (q .1 .part) (s .each _ (q .1 .among)));
       }
 
   pub change-holds : (x : Change) → RowReady t ms x → ChangeHolds (t .realm .n) ts count (t .realm .runs) x

@@ -24,9 +24,9 @@ use Rattle.messages.specs.Listed.{termAt, insert, insert-present, insert-new}
 use Rattle.messages.specs.Meanings.{meanings, meanings-length, meanings-at, at-meanings, meanings-same}
 use Rattle.deduction.specs.Known.{Known}
 use Rattle.exchange.specs.declared.call.Call.the-variants.{Term}
-use Rattle.kerberos.specs.Messages.{parallel}
+use Rattle.exchange.specs.Forms.{formOf}
 use Rattle.kerberos.specs.Log.{Event, Nothing, idle}
-use Rattle.kerberos.specs.Reading.{HD}
+use Rattle.kerberos.specs.Reading.{setOf}
 use Rattle.traces.specs.Engines.{Agrees}
 use Rattle.exchange.specs.Calls.{Sized}
 use Rattle.traces.specs.RuleSets.{Reading, read}
@@ -188,16 +188,16 @@ module _ {t : Tables} (w : Together t) (kind x y : ℕ) (size : Sized (Term kind
   pub term-together : Together (withTerms t count ts)
   term-together = next-together w grows (nothing (t .realm .clock)) tt tt (w .clock-fits)
 
-  module _ {R : Realm} (ρ : Reading Event) (a : Agrees HD R (valuesOf t) ρ) where
+  module _ {R : Realm} (ρ : Reading Event) (a : Agrees (setOf R) R (valuesOf R t) ρ) where
     made : messageFrom (ρ .terms) kind x y ≡ some (messageAt ts i)
     made = subst (λ (l : List Message). messageFrom l kind x y ≡ some (messageAt ts i)) (a .terms-are) (term-made (w .terms-hold) kind x y size e)
 
-    pub term-takes : header (t .realm) ≡ R → Takes parallel R (ρ .terms) (ρ .log) (Term kind x y) idle
+    pub term-takes : header (t .realm) ≡ R → Takes (formOf (R .rules)) R (ρ .terms) (ρ .log) (Term kind x y) idle
     term-takes same =
         takes-term (subst (λ (R : Realm). FieldsFit (R .n) kind x y) same (term-fields (w .terms-hold) kind x y size e)) made
         (subst (λ (l : List Message). length (insert (messageAt ts i) l) ≤ 512) (a .terms-are) (term-room (w .terms-hold) kind x y size e))
 
-    pub term-agrees : header (t .realm) ≡ R → Agrees HD R (valuesOf (withTerms t count ts)) (read HD true (Term kind x y) ρ)
+    pub term-agrees : header (t .realm) ≡ R → Agrees (setOf R) R (valuesOf R (withTerms t count ts)) (read (setOf R) true (Term kind x y) ρ)
     term-agrees same =
         next-agrees w grows (nothing (t .realm .clock)) tt tt same ρ a Nothing nothing-mirrors
         (term-inserted (w .terms-hold) kind x y size e ∙ ap (insert (messageAt ts i)) (a .terms-are) ∙ sym (ap (λ o. given o (ρ .terms) (λ m. insert m (ρ .terms))) made))

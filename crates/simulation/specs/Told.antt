@@ -32,7 +32,7 @@ use Rattle.traces.specs.Realm.{Realm}
 use Rattle.traces.specs.RuleSets.{Reading, read}
 use Rattle.traces.specs.Terms.{messageFrom}
 use Rattle.kerberos.specs.Log.{Event, Initiate, Respond, Issue, Authenticate, Accept, Finish, Tick, Purge, Leak, Nothing, Act}
-use Rattle.kerberos.specs.Reading.{HD}
+use Rattle.kerberos.specs.Reading.{setOf}
 use Rattle.realm.specs.Tables.{Tables}
 use Rattle.effects.specs.Call.{numbered, called}
 use Rattle.effects.specs.Kept.{same-old, more-new}
@@ -66,23 +66,23 @@ termTold at [] m = New at
 termTold at (x ∷ terms) m = ite (same m x) (Old at) (termTold (suc at) terms m)
 
 -- the reading's table grows by as many terms as a call was answered
-abbrev pub GrowsBy : Reading Event → Call → Answer → Type 0
-GrowsBy ρ c answer = length (read HD (accepts answer) c ρ .terms) ≡ length (ρ .terms) + addedBy answer
+abbrev pub GrowsBy : Realm → Reading Event → Call → Answer → Type 0
+GrowsBy R ρ c answer = length (read (setOf R) (accepts answer) c ρ .terms) ≡ length (ρ .terms) + addedBy answer
 
 -- ---- the reading's table
 
 module _ {R : Realm} {t : Tables} {ρ : Reading Event} (f : Follows R t ρ) where
-  counted : (u : Tables) (σ : Reading Event) → Agrees HD R (valuesOf u) σ → u .realm .terms ≡ length (σ .terms)
+  counted : (u : Tables) (σ : Reading Event) → Agrees (setOf R) R (valuesOf R u) σ → u .realm .terms ≡ length (σ .terms)
   counted u σ a = sym (meanings-length (u .terms) (u .realm .terms)) ∙ ap length (a .terms-are)
 
-  grown : (c : Call) → let o = called t c in Matches R (o .tables) (read HD (accepts (o .answer)) c ρ) → GrowsBy ρ c (o .answer)
+  grown : (c : Call) → let o = called t c in Matches R (o .tables) (read (setOf R) (accepts (o .answer)) c ρ) → GrowsBy R ρ c (o .answer)
   grown c m = omega (arith, counted (called t c .tables) _ (m .agrees), counted t ρ (f .agrees), added-counted t (f .together) c)
 
-  pub terms-grow : (c : Call) → Sized c → GrowsBy ρ c (called t c .answer)
+  pub terms-grow : (c : Call) → Sized c → GrowsBy R ρ c (called t c .answer)
   terms-grow c size = grown c (call-matches t ρ c size f)
 
   -- whatever the fields of a step
-  pub step-grows : (step r a b m now : ℕ) → let c = calls.Step step r a b m now in GrowsBy ρ c (called t c .answer)
+  pub step-grows : (step r a b m now : ℕ) → let c = calls.Step step r a b m now in GrowsBy R ρ c (called t c .answer)
   unfolding called
   step-grows step r a b m now = grown (calls.Step step r a b m now) (step-matches f (record { step = step; run = r; a = a; b = b; m = m; t = now }))
 

@@ -40,14 +40,14 @@ use Rattle.decisions.specs.declared.Verdict.{Verdict}
 use Rattle.decisions.specs.declared.Verdict.the-variants.{Takes, Refused}
 use Rattle.decisions.specs.Decision.{decision}
 use Rattle.decisions.specs.Effects.{messagesOf}
-use Rattle.decisions.specs.Laws.Fits.{RowFits, RowReady}
+use Rattle.decisions.specs.Laws.Fits.{RowFits, RowReady, Carries, EffectFits}
 use Rattle.decisions.specs.Laws.Verdict.{decision-takes}
 use Rattle.decisions.specs.Promises.{taken-fits}
 use Rattle.effects.specs.Apply.{realmAfter, applied}
 use Rattle.effects.specs.Cache.{cacheOf}
 use Rattle.effects.specs.Call.{withCount, numbered, byVerdict, stepped, called}
 use Rattle.effects.specs.Row.{changed, runCount}
-use Rattle.simulation.specs.Unread.Decided.{decision-same}
+use Rattle.simulation.specs.Unread.Decided.{sends-same, decision-same}
 use Rattle.simulation.specs.Unread.Added.{AddsSame, adds-same}
 
 -- ---- definitions
@@ -83,14 +83,22 @@ module _ (h : Realm) {ts ts′ rs rs′ : List ℕ} (ws : List ℕ) {c c′ : Li
 
   -- ---- the answer
 
-  verdict-answer : (v : Verdict) → byVerdict one v .answer ≡ byVerdict other v .answer
+  -- what is sent, and the terms with that entered
+  sent-same : (x : Effect) → Carries (h .terms) (x .sends) → messagesOf ts (x .sends) ≡ messagesOf ts′ (x .sends)
+  sent-same x l = sends-same h ws w w′ same-terms same-rows same-entries (x .sends) l
+
+  sent-entered : (x : Effect) → Carries (h .terms) (x .sends) → xs (messagesOf ts (x .sends)) ≡ xs′ (messagesOf ts′ (x .sends))
+  sent-entered x l = ap xs (sent-same x l) ∙ entered-same (messagesOf ts′ (x .sends))
+
+  verdict-answer : (s : Step) (v : Verdict) → decision other s ≡ v → byVerdict one v .answer ≡ byVerdict other v .answer
   unfolding applied
-  verdict-answer (Refused k) = refl
-  verdict-answer (Takes x) = ap (λ (l : List ℕ). Ok (x .names) (length l - h .terms)) (entered-same (messagesOf (x .sends)))
+  verdict-answer s (Refused k) d = refl
+  verdict-answer s (Takes x) d =
+      ap (λ (l : List ℕ). Ok (x .names) (length l - h .terms)) (sent-entered x (taken-fits other s w′ (decision-takes other s d .0) .carries))
 
   step-answer : (s : Step) → stepped one s .answer ≡ stepped other s .answer
   unfolding stepped
-  step-answer s = ap (λ (v : Verdict). byVerdict one v .answer) (decision-same h ws w w′ same-terms same-rows same-entries s) ∙ verdict-answer (decision other s)
+  step-answer s = ap (λ (v : Verdict). byVerdict one v .answer) (decision-same h ws w w′ same-terms same-rows same-entries s) ∙ verdict-answer s (decision other s) refl
 
   -- ---- the tables after a step
 
@@ -132,21 +140,23 @@ module _ (h : Realm) {ts ts′ rs rs′ : List ℕ} (ws : List ℕ) {c c′ : Li
       ∙ ap (kept p) same-entries
       ∙ sym (written-entries c′ (h .entries) (kept p (entries c′ (h .entries))))
 
-  effect-alike : (x : Effect) → RowReady one (messagesOf (x .sends)) (x .change) → Alike (applied one x .tables) (applied other x .tables)
+  effect-alike : (x : Effect) → EffectFits one x → Alike (applied one x .tables) (applied other x .tables)
   unfolding applied
   effect-alike x f =
-      let ms = messagesOf (x .sends) in
+      let ms = messagesOf ts (x .sends) in
+      let ms′ = messagesOf ts′ (x .sends) in
+      let e = sent-entered x (f .carries) in
       record {
-        realm = ap₂ (λ (l : List ℕ) (k : ℕ). realmAfter h (x .clock) (length l) (runCount (h .runs) (x .change)) k) (entered-same ms) (kept-count (x .keeping));
-        terms = take-append-seam (xs ms) (drop (length (xs ms)) ts) ∙ entered-same ms ∙ sym (take-append-seam (xs′ ms) (drop (length (xs′ ms)) ts′));
-        rows = changed-same ms (x .change) f;
-        wire = ap (λ (l : List ℕ). markedAll ws l ms) (entered-same ms);
+        realm = ap₂ (λ (l : List ℕ) (k : ℕ). realmAfter h (x .clock) (length l) (runCount (h .runs) (x .change)) k) e (kept-count (x .keeping));
+        terms = take-append-seam (xs ms) (drop (length (xs ms)) ts) ∙ e ∙ sym (take-append-seam (xs′ ms′) (drop (length (xs′ ms′)) ts′));
+        rows = changed-same ms (x .change) (f .row);
+        wire = ap₂ (markedAll ws) e (sent-same x (f .carries));
         entries = kept-entries (x .keeping);
       }
 
   verdict-alike : (s : Step) (v : Verdict) → decision one s ≡ v → Alike (byVerdict one v .tables) (byVerdict other v .tables)
   verdict-alike s (Refused k) d = record { realm = refl; terms = same-terms; rows = same-rows; wire = refl; entries = same-entries }
-  verdict-alike s (Takes x) d = effect-alike x (taken-fits one s w (decision-takes one s d .0) .row)
+  verdict-alike s (Takes x) d = effect-alike x (taken-fits one s w (decision-takes one s d .0))
 
   step-alike : (s : Step) → Alike (stepped one s .tables) (stepped other s .tables)
   unfolding stepped

@@ -6,8 +6,9 @@ use mathlib.Core.Path.{_≡_}
 use Rattle.marks.specs.Bits.{bit}
 use Rattle.deduction.specs.Derives.{Bad}
 
--- "n parties", "flags", "ticket life Ls and authenticator life La"
+-- the number of the rule set "named by header marks"; "n parties", "flags", "ticket life Ls and authenticator life La"
 pub record Realm : Type 0 where
+  pub rules : ℕ
   pub n : ℕ
   pub flags : ℕ
   pub ticketLife : ℕ

@@ -6,6 +6,7 @@ use decisions::Keeping;
 use decisions::Sends;
 use decisions::Verdict;
 use exchange::call::Names;
+use exchange::form::Form;
 use exchange::run::Role;
 use exchange::run::Row;
 use exchange::run::Stage;
@@ -37,8 +38,8 @@ pub fn opened(clock: u32, role: Role, r: u8, a: u8, b: u8, sends: Sends) -> Verd
 }
 
 // Step 3: server run r is opened, with the session key of its number.
-pub fn issued(clock: u32, r: u8, a: u8, b: u8, n: u16) -> Verdict
-    ensures { λ x. ⌜ x ≡ Taking (issuing clock r a b n) ⌝ }
+pub fn issued(clock: u32, form: Form, r: u8, a: u8, b: u8, n: u16) -> Verdict
+    ensures { λ x. ⌜ x ≡ Taking (issuing clock form r a b n) ⌝ }
 {
     Verdict::Takes(Effect {
         change: Change::Open(Row {
@@ -52,6 +53,7 @@ pub fn issued(clock: u32, r: u8, a: u8, b: u8, n: u16) -> Verdict
         }),
         keeping: Keeping::Same,
         sends: Sends::Issue {
+            form,
             k: r as u16,
             a: a as u16,
             b: b as u16,
@@ -76,9 +78,9 @@ fn advanced(clock: u32, r: u8, row: Row, keeping: Keeping, sends: Sends) -> Verd
     })
 }
 
-// Step 4: run r has taken K and Ts, and sends its authenticator.
-pub fn authenticated(clock: u32, r: u8, own: Row, k: u8, ts: u32) -> Verdict
-    ensures { λ x. ⌜ x ≡ Taking (authenticating clock r (own .a) (own .b) k ts) ⌝ }
+// Step 4: run r has taken K and Ts, and sends its authenticator, with term x where the form passes one on.
+pub fn authenticated(clock: u32, form: Form, r: u8, own: Row, k: u8, ts: u32, x: u16) -> Verdict
+    ensures { λ v. ⌜ v ≡ Taking (authenticating clock form r (own .a) (own .b) k ts x) ⌝ }
 {
     let row = Row {
         role: Role::Initiator,
@@ -89,10 +91,12 @@ pub fn authenticated(clock: u32, r: u8, own: Row, k: u8, ts: u32) -> Verdict
         ts,
         ta: clock,
     };
-    let sends = Sends::Authenticator {
+    let sends = Sends::Presented {
+        form,
         a: own.a as u16,
         ta: clock,
         k: k as u16,
+        x,
     };
     advanced(clock, r, row, Keeping::Same, sends)
 }

@@ -19,7 +19,8 @@ use Rattle.synthesis.specs.Test.{saturateOf, composesOf, derivableOf}
 use Rattle.sending.specs.Send.{sendOf}
 use Rattle.exchange.specs.Needs.{needTable}
 use Rattle.layers.specs.Layers.{ofKind, layer, _▸_}
-use Rattle.forms.specs.Forms.{requestIn, replyIn, confirmationIn}
+use Rattle.forms.specs.Forms.{requestIn, confirmationIn}
+use Rattle.forms.specs.Grant.{grantIn}
 use Rattle.forms.specs.Delivery.{ticketIn, authenticatorIn, deliveryIn}
 use Rattle.rows.specs.Runs.{runAt, setRun}
 use Rattle.replay.specs.Cache.{present, stays, kept, written}
@@ -31,6 +32,7 @@ use Rattle.effects.specs.Apply.{applied}
 use Rattle.effects.specs.Call.{stepped, called}
 use Rattle.records.specs.Calls.{callsWithin, callsOf}
 use Rattle.records.specs.Fields.{begins}
+use Rattle.exchange.specs.Forms.{forms}
 use Rattle.exchange.specs.Formats.{formats, rowOf}
 use Rattle.records.specs.Headers.{headerWidth, headerOf}
 use Rattle.records.specs.Records.{frontOf}
@@ -58,11 +60,11 @@ file = first7 ++ st 6 0 0 0 18 0 ++ st 2 0 1 2 0 0 ++ st 5 3 0 0 17 0
 
 pub printed : listingOf file
     ≡ ascii "0 HD ok\n1 ST ok 0 +5\n2 ST ok 1 +11\n3 ST ok 0 +1\n4 ST ok 2 +0\n5 TM 17 new\n6 ST ok 2 +1\n7 ST ok 0 +0\n8 ST ok 3 +0\n9 ST refused 18\nend runs 4 wire 5 cache 1 clock 0\n"
-unfolding listingOf headerOf formats rowOf headerWidth begins openingOf headerRefusal headerFits walkLines newTables callsOf callsWithin frontOf callLines lastLines tablesLine headerLine callLine markText namesText answerText endLine decimal decimalBy called stepped decision decided stepOf opensRun issues authenticates takes finishes ticks queries admission inputRefusal usesTable inRange needTable runAt setRun derivableOf composesOf saturateOf descend layers sweepOf visitOf marked mark withMark size sum isSet bit setBit termOf wordOf messageAt refusalOf findOf addOf place wordIn withWord entered sendOf applied present stays kept written requestIn replyIn ticketIn authenticatorIn deliveryIn confirmationIn ofKind layer _▸_
+unfolding listingOf headerOf formats rowOf headerWidth begins openingOf headerRefusal headerFits walkLines newTables callsOf callsWithin frontOf callLines lastLines tablesLine headerLine callLine markText namesText answerText endLine decimal decimalBy called stepped decision decided stepOf opensRun issues authenticates takes finishes ticks queries admission inputRefusal usesTable inRange needTable runAt setRun derivableOf composesOf saturateOf descend layers sweepOf visitOf marked mark withMark size sum isSet bit setBit termOf wordOf messageAt refusalOf findOf addOf place wordIn withWord entered sendOf applied present stays kept written requestIn forms grantIn ticketIn authenticatorIn deliveryIn confirmationIn ofKind layer _▸_
 printed = refl
 
 -- the same file cut off within its record 7: "After 1, 2 or 3 reading ends"
 pub cut-short : listingOf (first7 ++ ascii "ST")
     ≡ ascii "0 HD ok\n1 ST ok 0 +5\n2 ST ok 1 +11\n3 ST ok 0 +1\n4 ST ok 2 +0\n5 TM 17 new\n6 ST ok 2 +1\n7 file refused 3\nend runs 3 wire 5 cache 1 clock 0\n"
-unfolding listingOf headerOf formats rowOf headerWidth begins openingOf headerRefusal headerFits walkLines newTables callsOf callsWithin frontOf callLines lastLines tablesLine headerLine callLine markText namesText answerText fileLine endLine decimal decimalBy called stepped decision decided stepOf opensRun issues authenticates takes finishes ticks queries admission inputRefusal usesTable inRange needTable runAt setRun derivableOf composesOf saturateOf descend layers sweepOf visitOf marked mark withMark size sum isSet bit setBit termOf wordOf messageAt refusalOf findOf addOf place wordIn withWord entered sendOf applied present stays kept written requestIn replyIn ticketIn authenticatorIn deliveryIn confirmationIn ofKind layer _▸_
+unfolding listingOf headerOf formats rowOf headerWidth begins openingOf headerRefusal headerFits walkLines newTables callsOf callsWithin frontOf callLines lastLines tablesLine headerLine callLine markText namesText answerText fileLine endLine decimal decimalBy called stepped decision decided stepOf opensRun issues authenticates takes finishes ticks queries admission inputRefusal usesTable inRange needTable runAt setRun derivableOf composesOf saturateOf descend layers sweepOf visitOf marked mark withMark size sum isSet bit setBit termOf wordOf messageAt refusalOf findOf addOf place wordIn withWord entered sendOf applied present stays kept written requestIn forms grantIn ticketIn authenticatorIn deliveryIn confirmationIn ofKind layer _▸_
 cut-short = refl

@@ -15,7 +15,7 @@ use Rattle.exchange.specs.declared.header.Header.{Header}
 use Rattle.exchange.specs.declared.header.Lookup.the-variants.{Found, Missing}
 use Rattle.exchange.specs.Formats.{hd, formats, rowOf, formatOf}
 use Rattle.exchange.specs.Laws.Formats.{format-found}
-use Rattle.realm.specs.Opening.{headerFits, newRealm, openingBy, openingOf}
+use Rattle.realm.specs.Opening.{headerFits, rulesBy, newRealm, openingBy, openingOf}
 use Rattle.realm.specs.Promises.{hd-refusal}
 use Rattle.records.specs.declared.header.Heading.{Heading}
 use Rattle.records.specs.declared.header.Heading.the-variants.{Refused}
@@ -48,7 +48,7 @@ listing01 bytes =
 
 -- ---- laws
 
-by-fit : (fits : Bool) (bytes : List ℕ) → openingLines 0x4844 bytes (openingBy (cond fits 0 2) (headerAt bytes)) ≡ whole01 fits bytes
+by-fit : (fits : Bool) (bytes : List ℕ) → openingLines 0x4844 bytes (openingBy (cond fits 0 2) (rulesBy (formatOf 0x4844)) (headerAt bytes)) ≡ whole01 fits bytes
 unfolding walkLines headerLine headerWidth formats rowOf
 by-fit true bytes = refl
 by-fit false bytes = refl
@@ -58,7 +58,7 @@ hd-listed : (bytes : List ℕ) → length bytes ≤ maxFile → number16 bytes 0
 unfolding listingOf openingOf
 hd-listed bytes short mark whole =
     ap (headerLines bytes) (hd-read bytes short mark whole)
-    ∙ ap (λ (k : ℕ). openingLines 0x4844 bytes (openingBy k (headerAt bytes))) (hd-refusal (byte bytes 2) (number16 bytes 3) (number32 bytes 5) (number32 bytes 9))
+    ∙ ap (λ (k : ℕ). openingLines 0x4844 bytes (openingBy k (rulesBy (formatOf 0x4844)) (headerAt bytes))) (hd-refusal (byte bytes 2) (number16 bytes 3) (number32 bytes 5) (number32 bytes 9))
     ∙ by-fit (headerFits 16 (byte bytes 2) (number16 bytes 3) (number32 bytes 5) (number32 bytes 9)) bytes
 
 -- HD is in the table

@@ -7,10 +7,10 @@ use mathlib.Core.Path.{_≡_}
 use mathlib.Core.List.{List, _++_}
 use lib.ListN.{length, drop}
 use Rattle.exchange.specs.declared.call.Call.{Call}
-use Rattle.kerberos.specs.Agreement.{Demand3}
+use Rattle.kerberos.specs.Agreement.{Demand3, Secrecy}
 use Rattle.kerberos.specs.Entries.{Entries}
-use Rattle.kerberos.specs.Messages.{parallel}
-use Rattle.kerberos.specs.Reading.{HD}
+use Rattle.exchange.specs.Forms.{formOf}
+use Rattle.kerberos.specs.Reading.{setOf}
 use Rattle.exchange.specs.Calls.{AllSized}
 use Rattle.traces.specs.Engines.{Agrees, after, history}
 use Rattle.traces.specs.RuleSets.{reading}
@@ -26,7 +26,7 @@ use Rattle.realm.specs.declared.header.Realm.{Realm}
 use Rattle.realm.specs.Opening.{header, openingOf}
 use Rattle.simulation.specs.Values.{valuesOf}
 use Rattle.simulation.specs.Engine.{New, engineOf}
-use Rattle.simulation.specs.Promises.{demand3, entries, tables-follow}
+use Rattle.simulation.specs.Promises.{demand3, secret-keys, entries, tables-follow}
 use Rattle.walkfile.specs.Listing.{newTables, lastLines, walkLines, listingOf}
 use Rattle.walkfile.specs.Opened.{opened-new}
 use Rattle.walkfile.specs.Traced.{newestFirst, newest-sized, lines-traced}
@@ -69,23 +69,27 @@ module _ (bytes : List ℕ) (h : Realm) (o : HeaderOpens bytes h) where
   sized : AllSized calls
   sized = newest-sized (callsOf rest .calls) (calls-sized rest (drop-bytes (o .small) (headerWidth (o .values .mark))))
 
-  -- Demand 3 holds of its calls,
-  pub walk-demand3 : Demand3 parallel (header h) (history HD (header h) (engineOf (header h) (newTables h) new) calls)
+  -- Demand 3 holds of its calls, under the rule set that its mark names,
+  pub walk-demand3 : Demand3 (formOf (h .rules)) (header h) (history (setOf (header h)) (header h) (engineOf (header h) (newTables h) new) calls)
   walk-demand3 = demand3 (header h) (newTables h) new calls sized
+
+  -- the intruder cannot derive a key that was issued to two good principals and has not leaked,
+  pub walk-secret-keys : Secrecy (formOf (h .rules)) (header h) (history (setOf (header h)) (header h) (engineOf (header h) (newTables h) new) calls)
+  walk-secret-keys = secret-keys (header h) (newTables h) new calls sized
 
   -- each entry of its replay cache is from an acceptance of a time near the clock, and the initiator's own unless the intruder has a key
   -- for it,
-  pub walk-entries : Entries parallel (header h) (history HD (header h) (engineOf (header h) (newTables h) new) calls)
+  pub walk-entries : Entries (formOf (h .rules)) (header h) (history (setOf (header h)) (header h) (engineOf (header h) (newTables h) new) calls)
   walk-entries = entries (header h) (newTables h) new calls sized
 
   -- its tables agree with what is read of them,
-  pub walk-agrees : Agrees HD (header h) (valuesOf (after HD (header h) (engineOf (header h) (newTables h) new) calls))
-      (reading HD (history HD (header h) (engineOf (header h) (newTables h) new) calls))
+  pub walk-agrees : Agrees (setOf (header h)) (header h) (valuesOf (header h) (after (setOf (header h)) (header h) (engineOf (header h) (newTables h) new) calls))
+      (reading (setOf (header h)) (history (setOf (header h)) (header h) (engineOf (header h) (newTables h) new) calls))
   walk-agrees = tables-follow (header h) (newTables h) new calls sized
 
   -- and its listing is the lines of their history, the line of refusal 3 if a record gave it, and the last line.
   pub walk-listed : listingOf bytes
-      ≡ listing (o .values .mark) (history HD (header h) (engineOf (header h) (newTables h) new) calls)
-      ++ lastLines (suc (length calls)) (after HD (header h) (engineOf (header h) (newTables h) new) calls) (callsOf rest .ending)
+      ≡ listing (o .values .mark) (history (setOf (header h)) (header h) (engineOf (header h) (newTables h) new) calls)
+      ++ lastLines (suc (length calls)) (after (setOf (header h)) (header h) (engineOf (header h) (newTables h) new) calls) (callsOf rest .ending)
   unfolding listingOf walkLines listing
   walk-listed = rw (o .read, o .opened) (lines-traced (o .values .mark) (header h) (newTables h) new (callsOf rest .calls) (callsOf rest .ending))

@@ -9,7 +9,7 @@ use Rattle.exchange.specs.declared.call.Call.{Call}
 use Rattle.exchange.specs.Calls.{AllSized}
 use Rattle.traces.specs.Engines.{Engine, after, history}
 use Rattle.traces.specs.Realm.{Realm}
-use Rattle.kerberos.specs.Reading.{HD}
+use Rattle.kerberos.specs.Reading.{setOf}
 use Rattle.records.specs.Calls.{Ending}
 use Rattle.lines.specs.Lines.{callLine, listing}
 use Rattle.realm.specs.Tables.{Tables}
@@ -35,25 +35,25 @@ newest-sized cs s = onto-sized cs [] s tt
 -- ---- the lines of a history
 
 module _ (mark : ℕ) (R : Realm) (t : Tables) (new : New R t) where
-  abbrev E : Engine HD R
+  abbrev E : Engine (setOf R) R
   E = engineOf R t new
 
-  history-length : (cs : List Call) → length (history HD R E cs) ≡ length cs
+  history-length : (cs : List Call) → length (history (setOf R) R E cs) ≡ length cs
   history-length [] = refl
   history-length (c ∷ cs) = ap suc (history-length cs)
 
   lines-onto : (cs earlier : List Call) (e : Ending)
-      → listing mark (history HD R E earlier) ++ callLines (suc (length earlier)) (after HD R E earlier) cs e
-      ≡ listing mark (history HD R E (onto cs earlier)) ++ lastLines (suc (length (onto cs earlier))) (after HD R E (onto cs earlier)) e
+      → listing mark (history (setOf R) R E earlier) ++ callLines (suc (length earlier)) (after (setOf R) R E earlier) cs e
+      ≡ listing mark (history (setOf R) R E (onto cs earlier)) ++ lastLines (suc (length (onto cs earlier))) (after (setOf R) R E (onto cs earlier)) e
   unfolding callLines listing
   lines-onto [] earlier e = refl
   lines-onto (c ∷ cs) earlier e =
-      sym (append-assoc (listing mark (history HD R E earlier)) (callLine (suc (length earlier)) c (called (after HD R E earlier) c .answer)) _)
-      ∙ ap (λ (n : ℕ). (listing mark (history HD R E earlier) ++ callLine (suc n) c (called (after HD R E earlier) c .answer))
-      ++ callLines (suc (suc (length earlier))) (called (after HD R E earlier) c .tables) cs e) (sym (history-length earlier))
+      sym (append-assoc (listing mark (history (setOf R) R E earlier)) (callLine (suc (length earlier)) c (called (after (setOf R) R E earlier) c .answer)) _)
+      ∙ ap (λ (n : ℕ). (listing mark (history (setOf R) R E earlier) ++ callLine (suc n) c (called (after (setOf R) R E earlier) c .answer))
+      ++ callLines (suc (suc (length earlier))) (called (after (setOf R) R E earlier) c .tables) cs e) (sym (history-length earlier))
       ∙ lines-onto cs (c ∷ earlier) e
 
   pub lines-traced : (cs : List Call) (e : Ending)
       → listing mark [] ++ callLines 1 t cs e
-      ≡ listing mark (history HD R E (newestFirst cs)) ++ lastLines (suc (length (newestFirst cs))) (after HD R E (newestFirst cs)) e
+      ≡ listing mark (history (setOf R) R E (newestFirst cs)) ++ lastLines (suc (length (newestFirst cs))) (after (setOf R) R E (newestFirst cs)) e
   lines-traced cs e = lines-onto cs [] e

@@ -18,7 +18,8 @@ use Rattle.synthesis.specs.Test.{saturateOf, composesOf, derivableOf}
 use Rattle.sending.specs.Send.{sendOf}
 use Rattle.exchange.specs.Needs.{needTable}
 use Rattle.layers.specs.Layers.{ofKind, layer, _▸_}
-use Rattle.forms.specs.Forms.{requestIn, replyIn, confirmationIn}
+use Rattle.forms.specs.Forms.{requestIn, confirmationIn}
+use Rattle.forms.specs.Grant.{grantIn}
 use Rattle.forms.specs.Delivery.{ticketIn, authenticatorIn, deliveryIn}
 use Rattle.rows.specs.Runs.{runAt, setRun}
 use Rattle.replay.specs.Cache.{present, stays, kept, written}
@@ -30,6 +31,7 @@ use Rattle.effects.specs.Apply.{applied}
 use Rattle.effects.specs.Call.{stepped, called}
 use Rattle.records.specs.Calls.{callsWithin, callsOf}
 use Rattle.records.specs.Fields.{begins}
+use Rattle.exchange.specs.Forms.{forms}
 use Rattle.exchange.specs.Formats.{formats, rowOf}
 use Rattle.records.specs.Headers.{headerWidth, headerOf}
 use Rattle.records.specs.Records.{frontOf}
@@ -45,7 +47,7 @@ headed letters n flags = letters ++ n ∷ flags ++ 0 ∷ 0 ∷ 0 ∷ 100 ∷ 0 �
 -- 32 principals, the last of them bad, and a run of 30 for 31
 pub wide-printed : listingOf (headed (ascii "HW") 32 (0x80 ∷ 0 ∷ 0 ∷ 0 ∷ []) ++ st 1 0 30 31 0 0)
     ≡ ascii "0 HW ok\n1 ST ok 0 +5\nend runs 1 wire 1 cache 0 clock 0\n"
-unfolding listingOf headerOf formats rowOf headerWidth begins openingOf headerRefusal headerFits walkLines newTables callsOf callsWithin frontOf callLines lastLines tablesLine headerLine callLine markText namesText answerText endLine decimal decimalBy called stepped decision decided stepOf opensRun issues authenticates takes finishes ticks queries admission inputRefusal usesTable inRange needTable runAt setRun derivableOf composesOf saturateOf descend layers sweepOf visitOf marked mark withMark size sum isSet bit setBit termOf wordOf messageAt refusalOf findOf addOf place wordIn withWord entered sendOf applied present stays kept written requestIn replyIn ticketIn authenticatorIn deliveryIn confirmationIn ofKind layer _▸_
+unfolding listingOf headerOf formats rowOf headerWidth begins openingOf headerRefusal headerFits walkLines newTables callsOf callsWithin frontOf callLines lastLines tablesLine headerLine callLine markText namesText answerText endLine decimal decimalBy called stepped decision decided stepOf opensRun issues authenticates takes finishes ticks queries admission inputRefusal usesTable inRange needTable runAt setRun derivableOf composesOf saturateOf descend layers sweepOf visitOf marked mark withMark size sum isSet bit setBit termOf wordOf messageAt refusalOf findOf addOf place wordIn withWord entered sendOf applied present stays kept written requestIn forms grantIn ticketIn authenticatorIn deliveryIn confirmationIn ofKind layer _▸_
 wide-printed = refl
 
 -- "n is 3 to 32" under HW

@@ -16,7 +16,7 @@ use Rattle.exchange.specs.Calls.{Sized}
 use Rattle.runs.specs.Lent.{rowsHold}
 use Rattle.runs.specs.Promises.{rows-decided}
 use Rattle.realm.specs.Check.{together, wireHolds, entriesHold}
-use Rattle.realm.specs.Opening.{headerFits}
+use Rattle.realm.specs.Opening.{realmFits}
 use Rattle.realm.specs.Tables.{Tables}
 use Rattle.effects.specs.Apply.{Outcome, refuse}
 use Rattle.effects.specs.Call.{called, checked}
@@ -80,7 +80,7 @@ unfolding together
 few t e =
     let h = t .realm in
     let f =
-    five (headerFits 32 (h .n) (h .flags) (h .ls) (h .la)) (holds (h .n) (t .terms) (h .terms)) (rowsHold (h .n) (t .runs) (h .runs) (t .terms) (h .terms))
+    five (realmFits h) (holds (h .n) (t .terms) (h .terms)) (rowsHold (h .n) (t .runs) (h .runs) (t .terms) (h .terms))
     (wireHolds (t .wire) (h .terms)) (entriesHold (h .n) (t .cache) (h .entries)) e in
     let terms = holds-valid (h .n) (t .terms) (h .terms) (f .second) in
     let runs = rows-decided (h .n) (t .runs) (h .runs) (t .terms) (h .terms) .0 (f .third) in

@@ -25,9 +25,11 @@ module _ (t : Tables) (s : Step) where
   module _ {x : Effect} (e : decided t s ≡ Takes x) where
     -- its messages can be planned
     pub can-send : Together t → CanSend (t .terms) (t .realm .terms) (x .sends)
-    can-send w = record { n = t .realm .n; small = omega (arith, w .header-fits .most); table = w .terms-hold; writes = taken-fits t s w e .writes }
+    can-send w =
+        let f = taken-fits t s w e in
+        record { n = t .realm .n; small = omega (arith, w .header-fits .most); table = w .terms-hold; writes = f .writes; carries = f .carries }
 
-    module _ {words : List ℕ} {r : Prepared} (p : PlanFor (t .terms) (t .realm .terms) (messagesOf (x .sends)) words r) where
+    module _ {words : List ℕ} {r : Prepared} (p : PlanFor (t .terms) (t .realm .terms) (messagesOf (t .terms) (x .sends)) words r) where
       pub decision-full : 512 < t .realm .terms + r .count → Refused 20 ≡ decision t s
       unfolding decision
       decision-full lt = rw (e, ← room-known p, lt-leb (t .realm .terms + r .count) 512 lt)

@@ -14,14 +14,14 @@ use Rattle.deduction.specs.Derives.{Derives}
 use Rattle.deduction.specs.Known.{Known}
 use Rattle.synthesis.specs.Promises.{function-exact}
 use Rattle.sending.specs.Send.{fitsIn}
-use Rattle.forms.specs.Promises.{is-request, is-reply, is-confirmation, is-delivery}
+use Rattle.forms.specs.Promises.{is-request, is-grant, is-confirmation, is-delivery}
 use Rattle.runs.specs.Lent.{PrincipalsFit, principalsFit}
 use Rattle.runs.specs.Promises.{principals-decided}
 use Rattle.exchange.specs.declared.call.Call.the-variants as calls
 use Rattle.exchange.specs.declared.run.Role.the-variants.{Responder}
 use Rattle.exchange.specs.declared.run.Stage.the-variants.{Opened}
 use Rattle.exchange.specs.Needs.{needTable}
-use Rattle.kerberos.specs.Messages.{parallel, request, reply, ticket, authenticator, confirmation}
+use Rattle.kerberos.specs.Messages.{request, grant, ticket, authenticator, confirmation}
 use Rattle.kerberos.specs.Log.{Event}
 use Rattle.traces.specs.Conditions.{Apart}
 use Rattle.realm.specs.declared.header.Realm.{Realm}
@@ -41,9 +41,10 @@ use Rattle.decisions.specs.declared.Effect.{Effect}
 use Rattle.decisions.specs.declared.Verdict.{Verdict}
 use Rattle.decisions.specs.declared.Verdict.the-variants.{Takes, Refused}
 use Rattle.decisions.specs.Effects.{issuing, authenticating, accepting, finishing, messagesOf}
-use Rattle.decisions.specs.Decision.{need, onRequest, issues, onReply, authenticates, onDelivery, takes, onConfirmation, finishes}
+use Rattle.decisions.specs.Decision.{need, onRequest, issues, onGrant, authenticates, onDelivery, takes, onConfirmation, finishes}
 use Rattle.decisions.specs.Decision.{opensRun, ticks, queries, stepOf, decided, roomed, decision}
-use Rattle.decisions.specs.Laws.Took.{rowAt, Meets, Brings, Timely, Admits, Took, took1, took2, took3, took4, took5, took6, took7, took8, took9, took10}
+use Rattle.decisions.specs.Laws.Parts.{number-here}
+use Rattle.decisions.specs.Laws.Took.{rowAt, formAt, Meets, Brings, PassesOn, Timely, Admits, Took, took1, took2, took3, took4, took5, took6, took7, took8, took9, took10}
 
 -- ---- conditions that are met
 
@@ -110,7 +111,7 @@ module _ (t : Tables) (fits : Together t) where
   -- ---- the steps that take a message
 
   issues-on : (m a b n : ℕ) → Brings t m (request a b n) → Apart a b → t .realm .runs < 64
-      → issues (t .realm) (t .terms) (t .wire) m ≡ Takes (issuing (t .realm .clock) (t .realm .runs) a b n)
+      → issues (t .realm) (t .terms) (t .wire) m ≡ Takes (issuing (t .realm .clock) (formAt t) (t .realm .runs) a b n)
   unfolding issues
   issues-on m a b n k p room =
       met (ltb (t .realm .runs) 64) _ _ (lt-ltb (t .realm .runs) 64 room)
@@ -120,13 +121,16 @@ module _ (t : Tables) (fits : Together t) where
       apart : (not (eqb a 0) && not (eqb b 0) && not (eqb a b)) ≡ true
       apart = rw (ne-eqb a 0 (p .a-not-server), ne-eqb b 0 (p .b-not-server), ne-eqb a b (p .unequal))
 
-  authenticates-on : (r m k ts : ℕ) → Brings t m (reply parallel k (rowAt t r .b) ts r (rowAt t r .a)) → t .realm .clock < ts + t .realm .ls
-      → authenticates (t .realm) (t .terms) (t .wire) r (rowAt t r) m ≡ Takes (authenticating (t .realm .clock) r (rowAt t r .a) (rowAt t r .b) k ts)
+  authenticates-on : (r m k ts x : ℕ) → Brings t m (grant (formAt t) k (rowAt t r .b) ts r (rowAt t r .a) (messageAt (t .terms) x)) → PassesOn t m x
+      → t .realm .clock < ts + t .realm .ls
+      → authenticates (t .realm) (t .terms) (t .wire) r (rowAt t r) m ≡ Takes (authenticating (t .realm .clock) (formAt t) r (rowAt t r .a) (rowAt t r .b) k ts x)
   unfolding authenticates
-  authenticates-on r m k ts d l =
-      ap (onReply (t .realm) (t .terms) (t .wire) r (rowAt t r) m) (is-reply (messageAt (t .terms) m) k (rowAt t r .b) ts r (rowAt t r .a) .1 (d .is))
+  authenticates-on r m k ts x d c l =
+      ap (onGrant (t .realm) (t .terms) (t .wire) r (rowAt t r) m)
+      (is-grant (messageAt (t .terms) m) (formAt t) k (rowAt t r .b) ts r (rowAt t r .a) (messageAt (t .terms) x) .1 (d .is, c .is))
       ∙ met (eqb (rowAt t r .b) (rowAt t r .b) && eqb r r && eqb (rowAt t r .a) (rowAt t r .a)) _ _ (own (rowAt t r .b) (rowAt t r .a))
-      (met (derivableAt (t .realm) (t .terms) (t .wire) m) _ _ (derivable m d) (met (ticketLives (t .realm) ts) _ _ (lt-ltb _ _ l) refl))
+      (met (derivableAt (t .realm) (t .terms) (t .wire) m) _ _ (derivable m d) (met (ticketLives (t .realm) ts) _ _ (lt-ltb _ _ l)
+      (ap (λ (i : ℕ). Takes (authenticating (t .realm .clock) (formAt t) r (rowAt t r .a) (rowAt t r .b) k ts i)) (number-here (fits .terms-hold) x (c .below)))))
     where
       own : (b a : ℕ) → (eqb b b && eqb r r && eqb a a) ≡ true
       own b a = rw (equal b, equal r, equal a)
@@ -179,7 +183,7 @@ module _ (t : Tables) (fits : Together t) where
   -- no other way gives 22
   only-22 : (ok : Bool) (number : ℕ) (x : Effect) → roomed t (need ok number (Takes x)) ≡ Refused 22 → number ≡ 22
   only-22 false number x z = cc
-  only-22 true number x z = absurd (by (fitsIn (t .terms) (t .realm .terms) (messagesOf (x .sends))) z)
+  only-22 true number x z = absurd (by (fitsIn (t .terms) (t .realm .terms) (messagesOf (t .terms) (x .sends))) z)
     where
       by : (ok : Bool) → need ok 20 (Takes x) ≡ Refused 22 → ⊥
       by true z = let z : _≡_ {A = ℕ} 0 1 = cc in omega arith
@@ -218,9 +222,9 @@ module _ (t : Tables) (fits : Together t) where
       (met (ltb (t .realm .runs) 64) _ _ (lt-ltb (t .realm .runs) 64 room) refl)
   took-by (took3 {m} {a} {b} {n} k p room) =
       decided-by (fields 3 0 0 0 m 0) (omega arith) (omega arith) refl (message-in 3 m (k .below)) (issues-on m a b n k p room)
-  took-by (took4 {r} {m} {k} {ts} w d l) =
+  took-by (took4 {r} {m} {k} {ts} {x} w d c l) =
       decided-by (fields 4 r 0 0 m 0) (omega arith) (omega arith) refl (takes-in 4 r m (w .below) (d .below))
-      (met _ _ _ (w .at) (authenticates-on r m k ts d l))
+      (met _ _ _ (w .at) (authenticates-on r m k ts x d c l))
   took-by (took5 {r} {m} {k} {ts} {ta} w d l) =
       delivered r m k ts ta w d (l .timely) ∙ met _ _ _ (eq-eqb (remembers (rowAt t r .b) k ta) 0 (admitted ts (rowAt t r .b) k ta l)) refl
   took-by (took6 {r} {m} w d l) =

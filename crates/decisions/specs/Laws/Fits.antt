@@ -3,10 +3,11 @@
 use Prim.Native.Nat.{ℕ, _^_, _<_, _≤_}
 use mathlib.Core.Path.{_≡_, refl}
 use mathlib.Core.Bool.{true}
-use mathlib.Core.List.{List, List·Memᴰ, List·Memᴰ·head}
+use mathlib.Core.List.{List}
 use native.Mathlib.Omega.{arith}
 use Rattle.drafts.specs.Writes.{Writes}
-use Rattle.terms.specs.Message.{Key, Message, session, key, pair, encrypted}
+use Rattle.terms.specs.Meaning.{messageAt}
+use Rattle.terms.specs.Message.{Message}
 use Rattle.sending.specs.Send.{AllWrites}
 use Rattle.layers.specs.Promises.{in-range}
 use Rattle.runs.specs.Lent.{hasStage, PrincipalsFit}
@@ -24,16 +25,14 @@ use Rattle.decisions.specs.declared.Change.the-variants as changes
 use Rattle.decisions.specs.declared.Effect.{Effect}
 use Rattle.decisions.specs.declared.Keeping.{Keeping}
 use Rattle.decisions.specs.declared.Keeping.the-variants.{Same, Remember, Forget}
+use Rattle.decisions.specs.declared.Sends.{Sends}
+use Rattle.decisions.specs.declared.Sends.the-variants.{Request, Issue, Presented, Confirmation, Key}
+use Rattle.decisions.specs.declared.Sends.the-variants as sending
 use Rattle.decisions.specs.Effects.{messagesOf}
-use Rattle.decisions.specs.Laws.Took.{rowAt, Meets, Brings, Took, took1, took2, took3, took4, took5, took6, took7, took8, took9, took10}
+use Rattle.decisions.specs.Laws.Forms.{SendsKey, issue-shows, issue-writes, grant-key, presented-writes}
+use Rattle.decisions.specs.Laws.Took.{rowAt, formAt, Meets, Brings, Took, took1, took2, took3, took4, took5, took6, took7, took8, took9, took10}
 
 -- ---- definitions
-
--- a message of these has session key k as its first part
-pub record SendsKey (k : ℕ) (ms : List Message) : Type 0 where
-  pub rest : Message
-  pub under : Key
-  pub among : List·Memᴰ (encrypted (pair (key (session k)) rest) under) ms
 
 -- row x of run r, written with these messages
 pub record RowFits (n : ℕ) (ms : List Message) (r : ℕ) (x : Row) : Type 0 where
@@ -53,10 +52,20 @@ module _ (t : Tables) where
   EntryReady (Remember e) = (t .realm .entries < 16) × EntryFits (t .realm .n) e
   EntryReady (Forget b) = Unit {0}
 
+-- a term that is passed on is present
+abbrev pub Carries : (count : ℕ) → Sends → Type 0
+Carries count sending.Nothing = Unit {0}
+Carries count (Request a b n) = Unit {0}
+Carries count (Issue f k a b ts n) = Unit {0}
+Carries count (Presented f a ta k x) = x < count
+Carries count (Confirmation ta k) = Unit {0}
+Carries count (Key k) = Unit {0}
+
 pub record EffectFits (t : Tables) (x : Effect) : Type 0 where
-  pub row : RowReady t (messagesOf (x .sends)) (x .change)
+  pub row : RowReady t (messagesOf (t .terms) (x .sends)) (x .change)
   pub entry : EntryReady t (x .keeping)
-  pub writes : AllWrites (t .realm .n) (messagesOf (x .sends))
+  pub writes : AllWrites (t .realm .n) (messagesOf (t .terms) (x .sends))
+  pub carries : Carries (t .realm .terms) (x .sends)
 
 -- ---- what a step met
 
@@ -83,8 +92,8 @@ module _ (t : Tables) (fits : Together t) where
 
   pub took-fits : {c : Call} {e : Event} {x : Effect} → Took t c e x → EffectFits t x
   took-fits (took1 p room) =
-      record { row = (room, party refl p (omega arith) not-initiator); entry = tt; writes = ((p .a-below, (p .b-below, omega (arith, room))), tt) }
-  took-fits (took2 p room) = record { row = (room, party refl p (omega arith) not-responder); entry = tt; writes = tt }
+      record { row = (room, party refl p (omega arith) not-initiator); entry = tt; writes = ((p .a-below, (p .b-below, omega (arith, room))), tt); carries = tt }
+  took-fits (took2 p room) = record { row = (room, party refl p (omega arith) not-responder); entry = tt; writes = tt; carries = tt }
   took-fits (took3 {a = a} {b = b} {n = n} d p room) =
       let w : Writes (t .realm .n) (request a b n) = brought d in
       let own : t .realm .runs ≤ 95 = omega (arith, room) in
@@ -95,16 +104,22 @@ module _ (t : Tables) (fits : Together t) where
             stage = refl;
             principals = record { a-below = w .0; b-below = w .1 .0; apart = p };
             key = own;
-            server = λ e. (refl, record { rest = _; under = _; among = List·Memᴰ·head refl });
+            server = λ e. (refl, issue-shows (formAt t) _ _ _ _ _);
           },
         );
         entry = tt;
-        writes = (((own, (w .1 .0, (now, w .1 .1))), w .0), (((own, (w .0, now)), w .1 .0), tt));
+        writes = issue-writes (t .realm .n) (formAt t) own (w .0) (w .1 .0) now (w .1 .1);
+        carries = tt;
       }
-  took-fits (took4 v d i) =
-      let w = brought d in
+  took-fits (took4 {r} {k = k} {ts = ts} {x = x} v d c i) =
       let p = principals v in
-      record { row = (v .below, party refl p (w .0 .0) not-initiator); entry = tt; writes = (((p .a-below, now), w .0 .0), tt) }
+      let most = grant-key (t .realm .n) (formAt t) k (rowAt t r .b) ts r (rowAt t r .a) (messageAt (t .terms) x) (brought d) in
+      record {
+        row = (v .below, party refl p most not-initiator);
+        entry = tt;
+        writes = presented-writes (t .realm .n) (formAt t) (messageAt (t .terms) x) (p .a-below) now most (in-range (fits .terms-hold) (c .below) refl);
+        carries = c .below;
+      }
   took-fits (took5 v d i) =
       let w = brought d in
       let p = principals v in
@@ -112,20 +127,21 @@ module _ (t : Tables) (fits : Together t) where
         row = (v .below, party refl p (w .0 .0 .0) not-responder);
         entry = (i .room, record { b-below = p .b-below; k-most = w .0 .0 .0 });
         writes = ((w .1 .0 .1, w .0 .0 .0), tt);
+        carries = tt;
       }
   took-fits (took6 {r} v d i) =
-      record { row = (v .below, party refl (principals v) (fits .rows-hold .holds r (v .below) .key) not-initiator); entry = tt; writes = tt }
-  took-fits (took7 h) = record { row = tt; entry = tt; writes = tt }
-  took-fits (took8 h) = record { row = tt; entry = tt; writes = tt }
-  took-fits (took9 v) = record { row = tt; entry = tt; writes = (omega (arith, v .below, fits .rows-hold .room), tt) }
-  took-fits (took10 d) = record { row = tt; entry = tt; writes = tt }
+      record { row = (v .below, party refl (principals v) (fits .rows-hold .holds r (v .below) .key) not-initiator); entry = tt; writes = tt; carries = tt }
+  took-fits (took7 h) = record { row = tt; entry = tt; writes = tt; carries = tt }
+  took-fits (took8 h) = record { row = tt; entry = tt; writes = tt; carries = tt }
+  took-fits (took9 v) = record { row = tt; entry = tt; writes = (omega (arith, v .below, fits .rows-hold .room), tt); carries = tt }
+  took-fits (took10 d) = record { row = tt; entry = tt; writes = tt; carries = tt }
 
   -- the clock stays a time: the t of step 7 is one
   pub took-clock : {c : Call} {e : Event} {x : Effect} → Took t c e x → Sized c → x .clock < 2 ^ 32
   took-clock (took1 p l) s = now
   took-clock (took2 p l) s = now
   took-clock (took3 b a l) s = now
-  took-clock (took4 m b l) s = now
+  took-clock (took4 m b c l) s = now
   took-clock (took5 m b a) s = now
   took-clock (took6 m b l) s = now
   took-clock (took7 l) s = s .5

@@ -13,13 +13,13 @@ use borrow.Author.Tests.{eq-eqb, ne-eqb}
 use Rattle.terms.specs.Meaning.{messageAt}
 use Rattle.sending.specs.Send.{fitsIn}
 use Rattle.exchange.specs.declared.run.Row.{Row}
+use Rattle.exchange.specs.Forms.{formOf}
 use Rattle.exchange.specs.Needs.{needOf, meets}
 use Rattle.traces.specs.Lists.{_∈_, here, there}
-use Rattle.forms.specs.Forms.{requestIn, replyIn, confirmationIn}
+use Rattle.forms.specs.Forms.{requestIn, confirmationIn}
+use Rattle.forms.specs.Grant.{Granted, Is, Other, grantIn}
 use Rattle.forms.specs.declared.Confirmation.{Confirmation}
 use Rattle.forms.specs.declared.Confirmation.the-variants as confirmations
-use Rattle.forms.specs.declared.Reply.{Reply}
-use Rattle.forms.specs.declared.Reply.the-variants as replies
 use Rattle.forms.specs.declared.Request.{Request}
 use Rattle.forms.specs.declared.Request.the-variants as requests
 use Rattle.forms.specs.Delivery.{deliveryIn}
@@ -36,7 +36,7 @@ use Rattle.conditions.specs.Promises.{admission-refusals}
 use Rattle.decisions.specs.declared.Verdict.{Verdict}
 use Rattle.decisions.specs.declared.Verdict.the-variants.{Takes, Refused}
 use Rattle.decisions.specs.Effects.{messagesOf}
-use Rattle.decisions.specs.Decision.{need, roomForRun, onRequest, issues, onReply, authenticates, onDelivery, takes, onConfirmation, finishes}
+use Rattle.decisions.specs.Decision.{need, roomForRun, onRequest, issues, onGrant, authenticates, onDelivery, takes, onConfirmation, finishes}
 use Rattle.decisions.specs.Decision.{opensRun, ticks, queries, stepOf, decided, roomed, decision}
 use Rattle.decisions.specs.Refusals.{refusalsOf, fieldRefusals, allOf}
 
@@ -99,9 +99,9 @@ module _ (h : Realm) (ts ws : List ℕ) (m : ℕ) where
       (tells-derivable (refusalsOf 3) can _ (there (there here)) (λ e. e))
 
   module _ (r : ℕ) (own : Row) where
-    on-reply : (q : Reply) → Tells (refusalsOf 4) can (onReply h ts ws r own m q)
-    on-reply replies.Other = (there here, under 14 (omega arith))
-    on-reply (replies.Is k b ts′ n a) =
+    on-grant : (q : Granted) → Tells (refusalsOf 4) can (onGrant h ts ws r own m q)
+    on-grant Other = (there here, under 14 (omega arith))
+    on-grant (Is k b ts′ n a x) =
         tells-need (refusalsOf 4) can (eqb b (own .b) && eqb n r && eqb a (own .a)) 14 _ (there here) (under 14 (omega arith))
         (tells-derivable (refusalsOf 4) can _ (there (there here))
         (λ e. tells-need (refusalsOf 4) can (ticketLives h ts′) 16 _ (there (there (there here))) (over 16 (omega arith) e) e))
@@ -165,7 +165,7 @@ module _ (t : Tables) where
   by-step (suc (suc (suc (suc zero)))) r a b m now low high =
       let own = runAt (t .runs) r in
       tested 4 (can (t .realm) (t .terms) (t .wire) m) (meets (needOf 4) own) 11 _ here (omega arith)
-      (on-reply (t .realm) (t .terms) (t .wire) m r own (replyIn (messageAt (t .terms) m)))
+      (on-grant (t .realm) (t .terms) (t .wire) m r own (grantIn (formOf (t .realm .rules)) (messageAt (t .terms) m)))
   by-step (suc (suc (suc (suc (suc zero))))) r a b m now low high =
       let own = runAt (t .runs) r in
       tested 5 (can (t .realm) (t .terms) (t .wire) m) (meets (needOf 5) own) 11 _ here (omega arith)
@@ -186,7 +186,7 @@ module _ (t : Tables) where
   with-room : (ns : List ℕ) (d : Bool) (v : Verdict) → Tells ns d v → Tells (20 ∷ ns) d (roomed t v)
   with-room ns d (Refused k) (i, p) = (there i, p)
   with-room ns d (Takes x) e =
-      tells-need (20 ∷ ns) d (fitsIn (t .terms) (t .realm .terms) (messagesOf (x .sends))) 20 (Takes x) here (over 20 (omega arith) e) e
+      tells-need (20 ∷ ns) d (fitsIn (t .terms) (t .realm .terms) (messagesOf (t .terms) (x .sends))) 20 (Takes x) here (over 20 (omega arith) e) e
 
   -- behind its fields, a step has the refusals of the last column and 20
   pub state-tells : (s : Step) → inputRefusal (t .realm) s ≡ 0 → Tells (20 ∷ refusalsOf (s .step)) (askedFor t s) (decision t s)

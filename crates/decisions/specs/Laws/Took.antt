@@ -20,7 +20,10 @@ use Rattle.exchange.specs.declared.run.Role.the-variants.{Initiator, Responder,
 use Rattle.exchange.specs.declared.run.Row.{Row}
 use Rattle.exchange.specs.declared.run.Stage.{Stage}
 use Rattle.exchange.specs.declared.run.Stage.the-variants.{Opened, Authenticated, Done}
-use Rattle.kerberos.specs.Messages.{parallel, request, reply, ticket, authenticator, confirmation}
+use Rattle.kerberos.specs.Messages.{request, grant, ticket, authenticator, confirmation}
+use Rattle.kerberos.specs.Reading.{parts}
+use Rattle.exchange.specs.declared.form.Form.{Form}
+use Rattle.exchange.specs.Forms.{formOf}
 use Rattle.exchange.specs.Needs.{isAt}
 use Rattle.traces.specs.Conditions.{Apart}
 use Rattle.realm.specs.Tables.{Tables}
@@ -30,6 +33,10 @@ use Rattle.decisions.specs.Effects.{initiates, responds, issuing, authen
 -- the row of run r
 abbrev pub rowAt : Tables → ℕ → Row
 rowAt t r = runAt (t .runs) r
+
+-- the form that the realm's rule set names
+abbrev pub formAt : Tables → Form
+formAt t = formOf (t .realm .rules)
 
 -- run r is there, at this role and stage
 pub record Meets (t : Tables) (r : ℕ) (role : Role) (stage : Stage) : Type 0 where
@@ -41,6 +48,11 @@ pub record Brings (t : Tables) (m : ℕ) (x : Message) : Type 0 where
   pub below : m < t .realm .terms
   pub is : messageAt (t .terms) m ≡ x
   pub derivable : Derives (t .realm .n) (t .realm .flags) (Known (t .terms) (t .realm .terms) (t .wire)) x
+
+-- term x is present, and is the X of m
+pub record PassesOn (t : Tables) (m x : ℕ) : Type 0 where
+  pub below : x < t .realm .terms
+  pub is : messageAt (t .terms) x ≡ parts (formAt t) (messageAt (t .terms) m) .1
 
 -- neither 16 nor 17 nor 22
 pub record Timely (t : Tables) (ts ta : ℕ) : Type 0 where
@@ -69,13 +81,14 @@ pub data Took (t : Tables) : Call → Event → Effect → Type 0 where
       → Brings t m (request a b n)
       → Apart a b
       → t .realm .runs < 64
-      → Took t (calls.Step 3 0 0 0 m 0) (Issue (t .realm .runs) a b (t .realm .clock) n) (issuing (t .realm .clock) (t .realm .runs) a b n)
-  took4 : {r m k ts : ℕ}
+      → Took t (calls.Step 3 0 0 0 m 0) (Issue (t .realm .runs) a b (t .realm .clock) n) (issuing (t .realm .clock) (formAt t) (t .realm .runs) a b n)
+  took4 : {r m k ts x : ℕ}
       → Meets t r Initiator Opened
-      → Brings t m (reply parallel k (rowAt t r .b) ts r (rowAt t r .a))
+      → Brings t m (grant (formAt t) k (rowAt t r .b) ts r (rowAt t r .a) (messageAt (t .terms) x))
+      → PassesOn t m x
       → t .realm .clock < ts + t .realm .ls
       → Took t (calls.Step 4 r 0 0 m 0) (Authenticate r (rowAt t r .a) (rowAt t r .b) k ts (t .realm .clock))
-      (authenticating (t .realm .clock) r (rowAt t r .a) (rowAt t r .b) k ts)
+      (authenticating (t .realm .clock) (formAt t) r (rowAt t r .a) (rowAt t r .b) k ts x)
   took5 : {r m k ts ta : ℕ}
       → Meets t r Responder Opened
       → Brings t m (pair (ticket k (rowAt t r .a) ts (rowAt t r .b)) (authenticator (rowAt t r .a) ta k))

@@ -1,22 +1,22 @@
 -- The verdict turned round: a step that is decided to be taken has met what its row of the step table asks for.
 -- Assumes nothing.
 use Prim.Native.Nat.{ℕ, zero, suc, _+_, _<_, _≤_}
-use mathlib.Core.Path.{_≡_, refl, sym, _∙_, subst}
+use mathlib.Core.Path.{_≡_, refl, sym, ap, _∙_, subst}
 use mathlib.Core.Bool.{Bool, true, false, not, _&&_}
 use native.Mathlib.Omega.{arith}
 use borrow.Author.Tests.{ltb-true, leb-true, eqb-true, eqb-false, not-true}
 use lib.Dec.{ltb, leb, eqb}
 use Rattle.terms.specs.Meaning.{messageAt}
+use Rattle.terms.specs.Number.{numberIn, termsOf}
 use Rattle.terms.specs.Message.{Message, pair}
 use Rattle.deduction.specs.Derives.{Derives}
 use Rattle.deduction.specs.Known.{Known}
 use Rattle.synthesis.specs.Promises.{function-exact}
-use Rattle.forms.specs.Forms.{requestIn, replyIn, confirmationIn}
-use Rattle.forms.specs.Promises.{is-request, is-reply, is-confirmation}
+use Rattle.forms.specs.Forms.{requestIn, confirmationIn}
+use Rattle.forms.specs.Grant.{Granted, Is, Other, grantIn}
+use Rattle.forms.specs.Promises.{is-request, is-grant, is-confirmation}
 use Rattle.forms.specs.declared.Confirmation.{Confirmation}
 use Rattle.forms.specs.declared.Confirmation.the-variants as confirmations
-use Rattle.forms.specs.declared.Reply.{Reply}
-use Rattle.forms.specs.declared.Reply.the-variants as replies
 use Rattle.forms.specs.declared.Request.{Request}
 use Rattle.forms.specs.declared.Request.the-variants as requests
 use Rattle.forms.specs.Delivery.{deliveryIn}
@@ -32,7 +32,7 @@ use Rattle.exchange.specs.declared.run.Role.{Role}
 use Rattle.exchange.specs.declared.run.Role.the-variants.{Initiator, Responder, Server}
 use Rattle.exchange.specs.declared.run.Stage.{Stage}
 use Rattle.exchange.specs.declared.run.Stage.the-variants.{Opened, Authenticated, Done}
-use Rattle.kerberos.specs.Messages.{parallel, request, reply, ticket, authenticator, confirmation}
+use Rattle.kerberos.specs.Messages.{request, grant, ticket, authenticator, confirmation}
 use Rattle.exchange.specs.Needs.{needTable, isAt}
 use Rattle.traces.specs.Conditions.{Apart}
 use Rattle.realm.specs.declared.input.Step.{Step}
@@ -44,11 +44,13 @@ use Rattle.decisions.specs.Effects.{messagesOf}
 use Rattle.decisions.specs.declared.Effect.{Effect}
 use Rattle.decisions.specs.declared.Verdict.{Verdict}
 use Rattle.decisions.specs.declared.Verdict.the-variants.{Takes, Refused}
-use Rattle.decisions.specs.Decision.{need, onRequest, issues, onReply, authenticates, onDelivery, takes, onConfirmation, finishes}
+use Rattle.decisions.specs.Decision.{need, onRequest, issues, onGrant, authenticates, onDelivery, takes, onConfirmation, finishes}
 use Rattle.decisions.specs.Decision.{opensRun, ticks, queries, stepOf, decided, roomed, decision}
 use Rattle.realm.specs.Tables.{Tables, Together}
 use Rattle.realm.specs.Fields.{callOf, cleared, call-cleared, Range, in-range}
-use Rattle.decisions.specs.Laws.Took.{rowAt, Meets, Brings, Admits, TookAs, took-as, took1, took2, took3, took4, took5, took6, took7, took8, took9, took10}
+use Rattle.kerberos.specs.Reading.{parts}
+use Rattle.decisions.specs.Laws.Parts.{part-stands, number-here, carried}
+use Rattle.decisions.specs.Laws.Took.{rowAt, formAt, Meets, Brings, PassesOn, Admits, TookAs, took-as, took1, took2, took3, took4, took5, took6, took7, took8, took9, took10}
 
 -- ---- what a verdict says
 
@@ -110,20 +112,35 @@ module _ (t : Tables) (fits : Together t) where
       differ : (x y : ℕ) → not (eqb x y) ≡ true → ¬ (x ≡ y)
       differ x y e = eqb-false x y (not-true (eqb x y) e)
 
-  took-reply : (r m : ℕ) → Meets t r Initiator Opened → m < t .realm .terms → (q : Reply) → replyIn (messageAt (t .terms) m) ≡ q
-      → {e : Effect} → onReply (t .realm) (t .terms) (t .wire) r (rowAt t r) m q ≡ Takes e → TookAs t (calls.Step 4 r 0 0 m 0) e
-  took-reply r m w l replies.Other i v = not-refused v
-  took-reply r m w l (replies.Is k b ts n a) i v =
+  -- the X of a grant has a number, and the term of that number is the X
+  abbrev numberOf : Message → ℕ
+  numberOf x = numberIn (termsOf (t .terms) (t .realm .terms)) x
+
+  passes-on : (m : ℕ) → m < t .realm .terms → (k b ts n a : ℕ) (x : Message) → messageAt (t .terms) m ≡ grant (formAt t) k b ts n a x
+      → x ≡ parts (formAt t) (messageAt (t .terms) m) .1 → (messageAt (t .terms) (numberOf x) ≡ x) × PassesOn t m (numberOf x)
+  passes-on m l k b ts n a x e is =
+      let s = part-stands (fits .terms-hold .terms) (carried (formAt t) (messageAt (t .terms) m) k b ts n a x e is) m l refl in
+      let below : s .place < t .realm .terms = omega (arith, s .by, l) in
+      let q : numberOf x ≡ s .place = ap numberOf (sym (s .means)) ∙ number-here (fits .terms-hold) (s .place) below in
+      let means = ap (messageAt (t .terms)) q ∙ s .means in
+      (means, record { below = omega (arith, q, below); is = means ∙ is })
+
+  took-grant : (r m : ℕ) → Meets t r Initiator Opened → m < t .realm .terms → (q : Granted) → grantIn (formAt t) (messageAt (t .terms) m) ≡ q
+      → {e : Effect} → onGrant (t .realm) (t .terms) (t .wire) r (rowAt t r) m q ≡ Takes e → TookAs t (calls.Step 4 r 0 0 m 0) e
+  took-grant r m w l Other i v = not-refused v
+  took-grant r m w l (Is k b ts n a x) i v =
       let p = need-takes (eqb b (rowAt t r .b) && eqb n r && eqb a (rowAt t r .a)) _ _ v in
       let d = need-takes (can m) _ _ (p .1) in
       let j = need-takes (ticketLives (t .realm) ts) _ _ (d .1) in
       let f = five true true (eqb b (rowAt t r .b)) (eqb n r) (eqb a (rowAt t r .a)) (p .0) in
-      let own = same (eqb-true b (rowAt t r .b) (f .third)) (eqb-true n r (f .fourth)) (eqb-true a (rowAt t r .a) (f .fifth)) in
+      let g = is-grant (messageAt (t .terms) m) (formAt t) k b ts n a x .0 i in
+      let c = passes-on m l k b ts n a x (g .0) (g .1) in
+      let own = same (eqb-true b (rowAt t r .b) (f .third)) (eqb-true n r (f .fourth)) (eqb-true a (rowAt t r .a) (f .fifth)) (sym (c .0)) in
       subst (TookAs t (calls.Step 4 r 0 0 m 0)) (same-effect (j .1))
-      (took-as (took4 w (brings m (reply parallel k (rowAt t r .b) ts r (rowAt t r .a)) l (is-reply (messageAt (t .terms) m) k b ts n a .0 i ∙ own) (d .0)) (ltb-true _ _ (j .0))))
+      (took-as (took4 w (brings m (grant (formAt t) k (rowAt t r .b) ts r (rowAt t r .a) (messageAt (t .terms) (numberOf x))) l (g .0 ∙ own) (d .0)) (c .1) (ltb-true _ _ (j .0))))
     where
-      same : {b′ n′ a′ : ℕ} → b ≡ b′ → n ≡ n′ → a ≡ a′ → reply parallel k b ts n a ≡ reply parallel k b′ ts n′ a′
-      same x y z = cc
+      same : {b′ n′ a′ : ℕ} {x′ : Message} → b ≡ b′ → n ≡ n′ → a ≡ a′ → x ≡ x′ → grant (formAt t) k b ts n a x ≡ grant (formAt t) k b′ ts n′ a′ x′
+      same p q s u = λ i. grant (formAt t) k (p i) ts (q i) (s i) (u i)
 
   took-delivery : (r m : ℕ) → Meets t r Responder Opened → m < t .realm .terms → (q : Delivery) → deliveryIn (messageAt (t .terms) m) ≡ q
       → {e : Effect} → onDelivery (t .realm) (t .terms) (t .wire) (t .cache) r (rowAt t r) m q ≡ Takes e → TookAs t (calls.Step 5 r 0 0 m 0) e
@@ -184,7 +201,7 @@ module _ (t : Tables) (fits : Together t) where
       took-issue m (f .m refl) (ltb-true (t .realm .runs) 64 (p .0)) (requestIn (messageAt (t .terms) m)) refl (p .1)
   took-by (suc (suc (suc (suc zero)))) r a b m now f v =
       let p = met r Initiator Opened _ _ (f .run refl) v in
-      took-reply r m (p .0) (f .m refl) (replyIn (messageAt (t .terms) m)) refl (p .1)
+      took-grant r m (p .0) (f .m refl) (grantIn (formAt t) (messageAt (t .terms) m)) refl (p .1)
   took-by (suc (suc (suc (suc (suc zero))))) r a b m now f v =
       let p = met r Responder Opened _ _ (f .run refl) v in
       took-delivery r m (p .0) (f .m refl) (deliveryIn (messageAt (t .terms) m)) refl (p .1)
@@ -215,12 +232,12 @@ module _ (t : Tables) (fits : Together t) where
 -- ---- 20
 
 -- a step that is taken was taken by its row of the step table, and its terms fit
-pub decision-takes : (t : Tables) (s : Step) {x : Effect} → decision t s ≡ Takes x → (decided t s ≡ Takes x) × (fitsIn (t .terms) (t .realm .terms) (messagesOf (x .sends)) ≡ true)
+pub decision-takes : (t : Tables) (s : Step) {x : Effect} → decision t s ≡ Takes x → (decided t s ≡ Takes x) × (fitsIn (t .terms) (t .realm .terms) (messagesOf (t .terms) (x .sends)) ≡ true)
 unfolding decision
 decision-takes t s {x} d = by (decided t s) d
   where
-    by : (v : Verdict) → roomed t v ≡ Takes x → (v ≡ Takes x) × (fitsIn (t .terms) (t .realm .terms) (messagesOf (x .sends)) ≡ true)
+    by : (v : Verdict) → roomed t v ≡ Takes x → (v ≡ Takes x) × (fitsIn (t .terms) (t .realm .terms) (messagesOf (t .terms) (x .sends)) ≡ true)
     by (Refused k) e = not-refused e
     by (Takes y) e =
-        let q = need-takes (fitsIn (t .terms) (t .realm .terms) (messagesOf (y .sends))) 20 (Takes y) e in
-        (q .1, subst (λ (z : Effect). fitsIn (t .terms) (t .realm .terms) (messagesOf (z .sends)) ≡ true) (same-effect (q .1)) (q .0))
+        let q = need-takes (fitsIn (t .terms) (t .realm .terms) (messagesOf (t .terms) (y .sends))) 20 (Takes y) e in
+        (q .1, subst (λ (z : Effect). fitsIn (t .terms) (t .realm .terms) (messagesOf (t .terms) (z .sends)) ≡ true) (same-effect (q .1)) (q .0))

@@ -51,8 +51,8 @@ module _ (t : Tables) (x : Effect) where
     pub plan-applied : appliedWith t x (t .realm .terms + r .count) (plans.withPlan (t .terms) (t .realm .terms) words (r .count)) (markedBy (r .marks) (t .wire)) ≡ applied t x
     unfolding applied
     plan-applied =
-        let yes : fitsIn (t .terms) (t .realm .terms) (messagesOf (x .sends)) ≡ true = sym (room-known (f .plan)) ∙ le-leb (t .realm .terms + r .count) 512 (f .room) in
-        ap bySending (plan-sent (f .plan) (f .room) (t .wire) ∙ send-room (t .terms) (t .wire) (t .realm .terms) (messagesOf (x .sends)) yes)
+        let yes : fitsIn (t .terms) (t .realm .terms) (messagesOf (t .terms) (x .sends)) ≡ true = sym (room-known (f .plan)) ∙ le-leb (t .realm .terms + r .count) 512 (f .room) in
+        ap bySending (plan-sent (f .plan) (f .room) (t .wire) ∙ send-room (t .terms) (t .wire) (t .realm .terms) (messagesOf (t .terms) (x .sends)) yes)
 
     module _ {ts ws : List ℕ} (sent : (ts ≡ plans.withPlan (t .terms) (t .realm .terms) words (r .count)) × (ws ≡ markedBy (r .marks) (t .wire))) {rs : List ℕ} {opened : ℕ}
         (rows : (rs ≡ changed (t .realm .runs) (x .change) (t .runs)) × (opened ≡ runCount (t .realm .runs) (x .change))) {swept : Swept}

@@ -13,12 +13,12 @@ use Rattle.exchange.specs.declared.header.Flags.{Flags}
 use Rattle.exchange.specs.declared.header.Flags.the-variants.{Bits16, Bits32}
 use Rattle.exchange.specs.declared.header.Format.{Format}
 use Rattle.exchange.specs.declared.header.Lookup.the-variants.{Found, Missing}
-use Rattle.exchange.specs.Formats.{formats, rowOf, formatOf}
+use Rattle.exchange.specs.Formats.{hd, hw, h5, h4, formats, rowOf, formatOf}
 
 -- ---- a search, row by row
 
 abbrev none : Format
-none = record { mark = 0; flags = Bits16; most = 0 }
+none = record { mark = 0; flags = Bits16; most = 0; rules = 0 }
 
 module _ (mark : ℕ) (fs : List Format) (i : ℕ) (h : i < length fs) where
   row-at : rowOf mark (drop i fs) ≡ cond (eqb (getD fs i none .mark) mark) (Found (getD fs i none)) (rowOf mark (drop (suc i) fs))
@@ -55,10 +55,11 @@ abbrev pub bits : Flags → ℕ
 bits Bits16 = 16
 bits Bits32 = 32
 
--- a row: its mark has two bytes, and each of its principals a flag
+-- a row: its mark has two bytes, each of its principals a flag, and its rule set is one of the three
 pub record Sound (f : Format) : Type 0 where
   pub mark-fits : f .mark < 2 ^ 16
   pub flag-each : f .most ≤ bits (f .flags)
+  pub rules-known : f .rules < 3
 
 bits-most : (x : Flags) → bits x ≤ 32
 bits-most Bits16 = omega arith
@@ -66,10 +67,20 @@ bits-most Bits32 = omega arith
 
 pub format-found : (mark : ℕ) (f : Format) → formatOf mark ≡ Found f → (f .mark ≡ mark) × Sound f
 unfolding formats
-format-found mark f e = found Sound mark formats f (sound (omega arith) (omega arith), (sound (omega arith) (omega arith), tt)) e
+format-found mark f e =
+    found Sound mark formats f (
+      sound hd (omega arith) (omega arith) (omega arith),
+      (
+        sound hw (omega arith) (omega arith) (omega arith),
+        (
+          sound h5 (omega arith) (omega arith) (omega arith),
+          (sound h4 (omega arith) (omega arith) (omega arith), tt),
+        ),
+      ),
+    ) e
   where
-    sound : {g : Format} → g .mark < 2 ^ 16 → g .most ≤ bits (g .flags) → Sound g
-    sound p q = record { mark-fits = p; flag-each = q }
+    sound : (g : Format) → g .mark < 2 ^ 16 → g .most ≤ bits (g .flags) → g .rules < 3 → Sound g
+    sound g p q r = record { mark-fits = p; flag-each = q; rules-known = r }
 
 -- so a mark that is known allows at most 32 principals
 pub most-known : (mark : ℕ) (f : Format) → formatOf mark ≡ Found f → f .most ≤ 32

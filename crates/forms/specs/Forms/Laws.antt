@@ -6,14 +6,13 @@ use mathlib.Core.Option.{Option, none, some}
 use mathlib.Core.Path.{_≡_, refl, sym, ap}
 use Prim.Native.Nat.{ℕ}
 use native.Mathlib.Omega.{arith}
-use Rattle.kerberos.specs.Messages.{parallel, request, reply, confirmation}
+use Rattle.kerberos.specs.Messages.{request, confirmation}
 use Rattle.terms.specs.Message.{Message}
 use Rattle.layers.specs.Layers.{TIME, NONCE}
-use Rattle.layers.specs.Laws.Layers.{reads-atom, reads-▸, principal-first, time-first, key-first, under-key, under-session, exactly}
+use Rattle.layers.specs.Laws.Layers.{reads-atom, reads-▸, principal-first, under-session, exactly}
 use Rattle.forms.specs.declared.Confirmation.the-variants as confirmations
-use Rattle.forms.specs.declared.Reply.the-variants as replies
 use Rattle.forms.specs.declared.Request.the-variants as requests
-use Rattle.forms.specs.Forms.{requestForm, requestOf, requestIn, replyForm, replyOf, replyIn, confirmationForm, confirmationOf, confirmationIn}
+use Rattle.forms.specs.Forms.{requestForm, requestOf, requestIn, confirmationForm, confirmationOf, confirmationIn}
 
 -- step 3: "m is [a, b, any nonce N]"
 request-inv : (a b n : ℕ) (o : Option (ℕ × (ℕ × ℕ))) → requestOf o ≡ requests.Is a b n → o ≡ some (a, (b, n))
@@ -29,21 +28,6 @@ request-form m a b n =
 pub request-read : (m : Message) {o : Option (ℕ × (ℕ × ℕ))} → requestForm m ≡ o → requestOf o ≡ requestIn m
 unfolding requestIn
 request-read m e = sym (ap requestOf e)
-
--- step 4: "m is {K, b, Ts, own nonce} under a's key"
-reply-inv : (k b ts n a : ℕ) (o : Option (ℕ × (ℕ × (ℕ × (ℕ × ℕ))))) → replyOf o ≡ replies.Is k b ts n a → o ≡ some (a, (k, (b, (ts, n))))
-reply-inv k b ts n a none e = cc
-reply-inv k b ts n a (some (a′, (k′, (b′, (ts′, n′))))) e = cc
-
-pub reply-form : (m : Message) (k b ts n a : ℕ) → (replyIn m ≡ replies.Is k b ts n a) ↔ (m ≡ reply parallel k b ts n a)
-unfolding replyIn
-reply-form m k b ts n a =
-    exactly (reads-▸ under-key (reads-▸ key-first (reads-▸ principal-first (reads-▸ time-first (reads-atom NONCE (omega arith))))))
-    replyOf (a, (k, (b, (ts, n)))) (replies.Is k b ts n a) refl (reply-inv k b ts n a) m
-
-pub reply-read : (m : Message) {o : Option (ℕ × (ℕ × (ℕ × (ℕ × ℕ))))} → replyForm m ≡ o → replyOf o ≡ replyIn m
-unfolding replyIn
-reply-read m e = sym (ap replyOf e)
 
 -- step 6: "m is {Ta}K"
 confirmation-inv : (ta k : ℕ) (o : Option (ℕ × ℕ)) → confirmationOf o ≡ confirmations.Is ta k → o ≡ some (k, ta)

@@ -13,7 +13,7 @@ use Rattle.exchange.specs.declared.call.Names.the-variants.{Run}
 use Rattle.exchange.specs.declared.call.Answer.the-variants.{New, Ok}
 use Rattle.traces.specs.Realm.{Realm}
 use Rattle.traces.specs.Lists.{here, there}
-use Rattle.kerberos.specs.Messages.{parallel}
+use Rattle.exchange.specs.declared.form.Form.the-variants.{Parallel}
 use Rattle.traces.specs.Logs.{did, sent}
 use Rattle.kerberos.specs.Rules.{takes-term, takes2, takes3, takes5, takes9}
 use Rattle.traces.specs.RuleSets.{History, new, call}
@@ -23,11 +23,11 @@ use Rattle.traces.specs.Sample.{realmOf, headerOf, apart, le, nowhere}
 
 -- At the end of h run r of 2 accepts 1, with k and times 0, and there is no initiator run.
 pub record Alone (R : Realm) (h : History) (r k : ℕ) : Type 0 where
-  pub lawful : Lawful parallel R h
-  pub accepts : Accepts (log parallel h) r 1 2 k 0 0
-  pub no-initiator : (i a b : ℕ) → ¬ (Initiator (log parallel h) i a b)
+  pub lawful : Lawful Parallel R h
+  pub accepts : Accepts (log Parallel h) r 1 2 k 0 0
+  pub no-initiator : (i a b : ℕ) → ¬ (Initiator (log Parallel h) i a b)
 
-own64 : Own 64
+pub own64 : Own 64
 own64 = record { low = omega arith; high = omega arith }
 
 -- ---- the intruder asks for a ticket with a nonce of its own, and the server issues it: term 5 is the key, 15 the ticket
@@ -42,7 +42,7 @@ asked =
     ∷ (Term 0 1 0, New 0)
     ∷ []
 
-lawful-asked : (flags : ℕ) → flags ≤ 4 → flags % 2 ≡ 0 → Lawful parallel (realmOf flags) asked
+lawful-asked : (flags : ℕ) → flags ≤ 4 → flags % 2 ≡ 0 → Lawful Parallel (realmOf flags) asked
 unfolding ℕ-discrete
 lawful-asked flags h e =
     call (call (call (call (call (call (new (headerOf flags h e))
@@ -67,7 +67,7 @@ delivered h =
 abbrev pub leaked : History
 leaked = delivered ((Step 9 0 0 0 0 0, Ok (Run 0) 0) ∷ asked)
 
-leaked-none : {i a b : ℕ} → ¬ (Initiator (log parallel leaked) i a b)
+leaked-none : {i a b : ℕ} → ¬ (Initiator (log Parallel leaked) i a b)
 unfolding ℕ-discrete
 leaked-none (did (there (there (there (there (there (there (there (there (there (there (there i)))))))))))) = nowhere i
 
@@ -93,11 +93,11 @@ unleaked-needed = record {
 abbrev pub badA : History
 badA = delivered asked
 
-badA-none : {i a b : ℕ} → ¬ (Initiator (log parallel badA) i a b)
+badA-none : {i a b : ℕ} → ¬ (Initiator (log Parallel badA) i a b)
 unfolding ℕ-discrete
 badA-none (did (there (there (there (there (there (there (there (there (there (there i))))))))))) = nowhere i
 
-bad1 : Bad 3 2 1
+pub bad1 : Bad 3 2 1
 unfolding bit
 bad1 = record { present = le refl; flagged = refl }
 
@@ -134,7 +134,7 @@ badB =
     ∷ (Term 0 1 0, New 0)
     ∷ []
 
-badB-none : {i a b : ℕ} → ¬ (Initiator (log parallel badB) i a b)
+badB-none : {i a b : ℕ} → ¬ (Initiator (log Parallel badB) i a b)
 unfolding ℕ-discrete
 badB-none (did (there (there (there (there (there (there (there (there (there (there (there i)))))))))))) = nowhere i
 

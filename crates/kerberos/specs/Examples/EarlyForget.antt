@@ -15,7 +15,8 @@ use Rattle.exchange.specs.declared.call.Names.the-variants.{Run, Nobody}
 use Rattle.exchange.specs.declared.call.Answer.the-variants.{Ok}
 use Rattle.traces.specs.Realm.{Realm}
 use Rattle.traces.specs.Lists.{_∈_, here, there}
-use Rattle.kerberos.specs.Messages.{parallel, ticket, authenticator}
+use Rattle.exchange.specs.declared.form.Form.the-variants.{Parallel}
+use Rattle.kerberos.specs.Messages.{ticket, authenticator}
 use Rattle.traces.specs.Logs.{sent}
 use Rattle.kerberos.specs.Log.{Log, clock, run, responderOpened, cacheAfter, cache}
 use Rattle.traces.specs.Conditions.{Delivers}
@@ -32,33 +33,33 @@ early R ((e, ms) ∷ l) = cacheAfter R (suc (clock l)) e (early R l)
 
 -- "B: Ta 0, La 10: clock 9 passes"
 abbrev pub purged : History
-purged = (Step 2 0 1 2 0 0, Ok (Run 3) 0) ∷ (Step 8 0 0 2 0 0, Ok Nobody 0) ∷ (Step 7 0 0 0 0 9, Ok Nobody 0) ∷ accepting
+purged = (Step 2 0 1 2 0 0, Ok (Run 3) 0) ∷ (Step 8 0 0 2 0 0, Ok Nobody 0) ∷ (Step 7 0 0 0 0 9, Ok Nobody 0) ∷ accepting Parallel
 
-pub lawful-purged : Lawful parallel realm purged
+pub lawful-purged : Lawful Parallel realm purged
 unfolding ℕ-discrete
 lawful-purged =
-    call (call (call lawful-accepting
+    call (call (call (lawful-accepting Parallel)
     (λ _. takes7 (le refl)))
     (λ _. takes8 (le refl)))
     (λ _. takes2 (le refl, le refl) apart (le refl))
 
 -- "C: that entry survives step 8 at clock 9"
-pub remembered : cache realm (log parallel purged) ≡ entry 2 1 0 ∷ []
+pub remembered : cache realm (log Parallel purged) ≡ entry 2 1 0 ∷ []
 unfolding ℕ-discrete
 remembered = refl
 
-pub forgotten : early realm (log parallel purged) ≡ []
+pub forgotten : early realm (log Parallel purged) ≡ []
 unfolding ℕ-discrete
 forgotten = refl
 
 -- what step 5 asks for in run 3, with the early cache
-pub second : (run (log parallel purged) 3 ≡ some (responderOpened 1 2))
-    × Delivers realm (reading (rules parallel) purged .terms) (log parallel purged) 17 (pair (ticket 1 1 0 2) (authenticator 1 0 1))
-    × TicketLives realm (log parallel purged) 0
-    × AuthenticatorLives realm (log parallel purged) 0
-    × NotAhead realm (log parallel purged) 0
-    × (¬ (entry 2 1 0 ∈ early realm (log parallel purged)))
-    × (length (early realm (log parallel purged)) < 16)
+pub second : (run (log Parallel purged) 3 ≡ some (responderOpened 1 2))
+    × Delivers realm (reading (rules Parallel) purged .terms) (log Parallel purged) 17 (pair (ticket 1 1 0 2) (authenticator 1 0 1))
+    × TicketLives realm (log Parallel purged) 0
+    × AuthenticatorLives realm (log Parallel purged) 0
+    × NotAhead realm (log Parallel purged) 0
+    × (¬ (entry 2 1 0 ∈ early realm (log Parallel purged)))
+    × (length (early realm (log Parallel purged)) < 16)
 unfolding ℕ-discrete
 second = (
   refl,

@@ -12,7 +12,7 @@ use Rattle.traces.specs.Lists.{_∈_, here, there, _⊑_, now, before}
 use Rattle.traces.specs.Logs.{trace-at}
 use Rattle.traces.specs.RuleSets.{History, Entry, entry}
 use Rattle.traces.specs.Laws.Histories.{log-point, point-of, trace-of}
-use Rattle.kerberos.specs.Messages.{Form}
+use Rattle.exchange.specs.declared.form.Form.{Form}
 use Rattle.kerberos.specs.Log.{Event, Initiate, Respond, Issue, Authenticate, Accept, Finish, Tick, Purge, Leak, Nothing, Log, clock, forget, cacheAfter, cache}
 use Rattle.kerberos.specs.Reading.{rules, log, Lawful}
 use Rattle.kerberos.specs.Words.{Accepts, accepts5}

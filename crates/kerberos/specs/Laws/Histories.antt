@@ -3,19 +3,22 @@
 use Prim.Native.Nat.{ℕ, _+_, _<_, _≤_}
 use mathlib.Core.Path.{_≡_, refl, _∙_}
 use mathlib.Core.Option.{Option, some}
+use Rattle.terms.specs.Message.{Message}
 use Rattle.exchange.specs.declared.call.Call.{Call}
 use Rattle.traces.specs.Realm.{Realm}
-use Rattle.traces.specs.Lists.{here, _⊑_}
+use Rattle.traces.specs.Lists.{here, _⊑_, now}
 use Rattle.traces.specs.Logs.{Did, did, did-later, add, trace-at}
 use Rattle.traces.specs.Terms.{given}
 use Rattle.traces.specs.RuleSets.{History, Reading, taken}
 use Rattle.traces.specs.Laws.Histories.{log-point, trace-of}
-use Rattle.kerberos.specs.Messages.{Form, parallel, grant, presented}
+use Rattle.exchange.specs.declared.form.Form.{Form}
+use Rattle.exchange.specs.declared.form.Form.the-variants.{Parallel, Kerberos5, Kerberos4}
+use Rattle.kerberos.specs.Messages.{grant, presented}
 use Rattle.kerberos.specs.Log.{Event, Authenticate, Accept, Act, Log, clock, stored, initiatorOpened}
 use Rattle.kerberos.specs.Rules.{Takes, takes-term, takes1, takes2, takes3, takes4, takes5, takes6, takes7, takes8, takes9, takes10}
 use Rattle.kerberos.specs.Reading.{read4, actOf, rules, log, Lawful}
 use Rattle.kerberos.specs.Words.{Accepts, accepts5, opened3, from4}
-use Rattle.kerberos.specs.Agreement.{Demand3}
+use Rattle.kerberos.specs.Agreement.{Demand3, Secrecy}
 use Rattle.kerberos.specs.Laws.Trace.{Trace}
 use Rattle.kerberos.specs.Laws.Runs.{authenticate-opened, accept-opened}
 use Rattle.kerberos.specs.Laws.Taken.{key-secret}
@@ -55,22 +58,29 @@ agreement {f} {R} {h} lawful A B goodA goodB r k ts ta acc s x unleaked =
       holders = λ p to. holders w goodA goodB (did-later z i) later (log-point (rules f) to);
     }
 
+-- ---- an unleaked key
+
+pub secrecy : {f : Form} {R : Realm} {h : History} → Lawful f R h → Secrecy f R h
+secrecy {f} lawful A B goodA goodB k ts n i = key-secret (trace-of (rules f) lawful) goodA goodB i now
+
 -- ---- a call is read as what the rules take it for
 
 given-some : {A B : Type 0} {o : Option A} {x : A} (d : B) (f : A → B) → o ≡ some x → given o d f ≡ f x
 given-some d f e = rw e refl
 
--- step 4's, by the form
-read-grant : (f : Form) (r ta a b k ts n : ℕ)
-    → read4 f r ta (stored (initiatorOpened a b)) (grant f k b ts n a) ≡ (Authenticate r a b k ts ta, presented f a ta k)
-read-grant parallel r ta a b k ts n = refl
+-- step 4's, whatever X is
+read-grant : (f : Form) (r ta a b k ts n : ℕ) (x : Message)
+    → read4 f r ta (stored (initiatorOpened a b)) (grant f k b ts n a x) ≡ (Authenticate r a b k ts ta, presented f a ta k x)
+read-grant Parallel r ta a b k ts n x = refl
+read-grant Kerberos5 r ta a b k ts n x = refl
+read-grant Kerberos4 r ta a b k ts n x = refl
 
 pub taken-read : {f : Form} {R : Realm} (ρ : Reading Event) {c : Call} {a : Act} → Takes f R (ρ .terms) (ρ .log) c a → actOf f c ρ ≡ a
 taken-read ρ (takes-term i m z) = refl
 taken-read ρ (takes1 i p s z) = refl
 taken-read ρ (takes2 i p s) = refl
 taken-read ρ (takes3 d p s z) = given-some _ _ (d .form)
-taken-read {f} ρ (takes4 {r} {m} {a} {b} {k} {ts} {n} e d o t z) = given-some _ _ e ∙ given-some _ _ (d .form) ∙ read-grant f r _ a b k ts n
+taken-read {f} ρ (takes4 {r} {m} {a} {b} {k} {ts} {n} x e d o t z) = given-some _ _ e ∙ given-some _ _ (d .form) ∙ read-grant f r _ a b k ts n x
 taken-read ρ (takes5 e d t u v n s z) = given-some _ _ e ∙ given-some _ _ (d .form)
 taken-read ρ (takes6 e d t) = given-some _ _ e
 taken-read ρ (takes7 h) = refl

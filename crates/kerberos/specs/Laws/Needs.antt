@@ -15,7 +15,7 @@ use Rattle.exchange.specs.declared.run.Stage.the-variants.{Opened, Authenticate
 use Rattle.exchange.specs.Needs.{needTable, needOf, isAt, meets}
 use Rattle.exchange.specs.Laws.Needs.{isAt-same}
 use Rattle.traces.specs.Realm.{Realm}
-use Rattle.kerberos.specs.Messages.{Form}
+use Rattle.exchange.specs.declared.form.Form.{Form}
 use Rattle.kerberos.specs.Log.{Act, Log, Run, initiatorOpened, initiatorAuthenticated, initiatorDone, responderOpened, responderDone, serverDone, run, stored}
 use Rattle.kerberos.specs.Rules.{Takes, takes1, takes2, takes3, takes4, takes5, takes6, takes7, takes8, takes9, takes10}
 
@@ -32,7 +32,7 @@ unfolding needTable
 takes-met (takes1 i p s f) h = refl
 takes-met (takes2 i p s) h = refl
 takes-met (takes3 d p s f) h = refl
-takes-met (takes4 e d o t f) h = met-by 4 (sym h ∙ e) refl
+takes-met (takes4 x e d o t f) h = met-by 4 (sym h ∙ e) refl
 takes-met (takes5 e d t u v n s f) h = met-by 5 (sym h ∙ e) refl
 takes-met (takes6 e d t) h = met-by 6 (sym h ∙ e) refl
 takes-met (takes7 c) h = refl

@@ -14,7 +14,7 @@ use Rattle.traces.specs.Realm.{Realm}
 use Rattle.traces.specs.Lists.{_∈_, here, there}
 use Rattle.traces.specs.Logs.{Did, did, add}
 use Rattle.traces.specs.RuleSets.{Entry, entry, refused, taken}
-use Rattle.kerberos.specs.Messages.{Form}
+use Rattle.exchange.specs.declared.form.Form.{Form}
 use Rattle.kerberos.specs.Log.{Event, Accept, Log, forget, cache, clock}
 use Rattle.kerberos.specs.Rules.{takes-term, takes1, takes2, takes3, takes4, takes5, takes6, takes7, takes8, takes9, takes10}
 use Rattle.kerberos.specs.Laws.Trace.{Adds, Trace}
@@ -59,7 +59,7 @@ stays b k ta (taken (takes-term i m f)) h = h
 stays b k ta (taken (takes1 i p s f)) h = h
 stays b k ta (taken (takes2 i p s)) h = h
 stays b k ta (taken (takes3 d p s f)) h = h
-stays b k ta (taken (takes4 e d o t f)) h = h
+stays b k ta (taken (takes4 x e d o t f)) h = h
 stays b k ta (taken (takes5 e d t u v n s f)) (inl i) = inl (in-append _ i)
 stays b k ta (taken (takes5 e d t u v n s f)) (inr o) = inr o
 stays b k ta (taken (takes6 e d t)) h = h

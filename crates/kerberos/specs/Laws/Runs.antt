@@ -11,7 +11,7 @@ use Rattle.traces.specs.Lists.{_∈_, here, there}
 use Rattle.traces.specs.Logs.{Did}
 use Rattle.traces.specs.Rows.{RowEffect, moved, rested, change-append, change-set, Telling, recorded, traced}
 use Rattle.traces.specs.RuleSets.{refused, taken}
-use Rattle.kerberos.specs.Messages.{Form}
+use Rattle.exchange.specs.declared.form.Form.{Form}
 use Rattle.kerberos.specs.Log.{Event, Initiate, Respond, Issue, Authenticate, Accept, Finish, Tick, Purge, Leak, Nothing, Log, runs, run}
 use Rattle.kerberos.specs.Log.{Run, initiatorOpened, initiatorAuthenticated, initiatorDone, responderOpened, responderDone, serverDone}
 use Rattle.kerberos.specs.Rules.{takes-term, takes1, takes2, takes3, takes4, takes5, takes6, takes7, takes8, takes9, takes10}
@@ -49,7 +49,7 @@ effect (taken (takes-term i h f)) = rested refl refl
 effect {l = l} (taken (takes1 i p s f)) = moved refl (change-append (runs l) _) refl
 effect {l = l} (taken (takes2 i p s)) = moved refl (change-append (runs l) _) refl
 effect {l = l} (taken (takes3 d p s f)) = moved refl (change-append (runs l) _) refl
-effect {l = l} (taken (takes4 e d o t f)) = moved refl (change-set (runs l) _ _ e) refl
+effect {l = l} (taken (takes4 x e d o t f)) = moved refl (change-set (runs l) _ _ e) refl
 effect {l = l} (taken (takes5 e d t u v n s f)) = moved refl (change-set (runs l) _ _ e) refl
 effect {l = l} (taken (takes6 e d t)) = moved refl (change-set (runs l) _ _ e) refl
 effect (taken (takes7 h)) = rested refl refl

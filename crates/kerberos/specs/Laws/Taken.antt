@@ -14,12 +14,13 @@ use Rattle.traces.specs.RuleSets.{taken}
 use Rattle.traces.specs.Origins.{Some, by, Safe}
 use Rattle.traces.specs.Laws.Secrecy as secrecy
 use Rattle.traces.specs.Laws.Secrecy.{itself, in-left, issued-safe, made-longTerm, made-session, made-showing}
-use Rattle.kerberos.specs.Messages.{Form, reply, ticket, authenticator}
+use Rattle.exchange.specs.declared.form.Form.{Form}
+use Rattle.kerberos.specs.Messages.{reply, ticket, authenticator}
 use Rattle.kerberos.specs.Log.{Issue, Authenticate, Accept, Log}
 use Rattle.kerberos.specs.Rules.{takes3, takes4, takes5}
 use Rattle.kerberos.specs.Words.{Leaked}
 use Rattle.kerberos.specs.Laws.Trace.{Adds, Trace}
-use Rattle.kerberos.specs.Laws.Made.{Leaks, leaks9, issues3, origins, made-authenticator}
+use Rattle.kerberos.specs.Laws.Made.{tail, Leaks, leaks9, issues3, origins, made-authenticator}
 use Rattle.kerberos.specs.Laws.Forms.{made-ticket, made-reply, grant-reply}
 use Rattle.kerberos.specs.Laws.Sound.{sound}
 
@@ -30,8 +31,8 @@ asked3 (taken (takes3 d p s z)) = p
 
 asked4 : {f : Form} {R : Realm} {l : Log} {ms : List Message} {r a b k ts ta : ℕ}
     → Adds f R l (Authenticate r a b k ts ta, ms)
-    → Derivable R l (reply f k b ts r a)
-asked4 {f} {R} (taken (takes4 {a = a} {b = b} {k = k} {ts = ts} {n = n} e d o t z)) = rw o at (grant-reply f R k b ts n a (d .derivable))
+    → (x : Message) × Derivable R l (reply k b ts (tail f r x) a)
+asked4 {f} {R} (taken (takes4 {a = a} {b = b} {k = k} {ts = ts} {n = n} x e d o t z)) = (x, rw o at (grant-reply f R k b ts n a x (d .derivable)))
 
 asked5 : {f : Form} {R : Realm} {l : Log} {ms : List Message} {r a b k ts ta : ℕ}
     → Adds f R l (Accept r a b k ts ta, ms)
@@ -42,8 +43,8 @@ module _ {f : Form} {R : Realm} {l : Log} (w : Trace f R l) where
   pub issue-apart : {k a b ts n : ℕ} → Did l (Issue k a b ts n) → Apart a b
   issue-apart i = asked3 (past w i .adds)
 
-  took-reply : {r a b k ts ta : ℕ} → Did l (Authenticate r a b k ts ta) → Derivable R l (reply f k b ts r a)
-  took-reply i = let p = past w i in derivable-later R (p .point) (asked4 (p .adds))
+  took-reply : {r a b k ts ta : ℕ} → Did l (Authenticate r a b k ts ta) → (x : Message) × Derivable R l (reply k b ts (tail f r x) a)
+  took-reply i = let p = past w i in let d = asked4 (p .adds) in (d .0, derivable-later R (p .point) (d .1))
 
   took-ticket : {r a b k ts ta : ℕ} → Did l (Accept r a b k ts ta) → Derivable R l (pair (ticket k a ts b) (authenticator a ta k))
   took-ticket i = let p = past w i in derivable-later R (p .point) (asked5 (p .adds))
@@ -51,7 +52,7 @@ module _ {f : Form} {R : Realm} {l : Log} (w : Trace f R l) where
   -- ---- a good principal's run took what the server issued: an initiator's for its own nonce
 
   pub authenticate-issued : {r a b k ts ta : ℕ} → Good R a → Did l (Authenticate r a b k ts ta) → Did l (Issue k a b ts r)
-  authenticate-issued {r} g i = made-reply f r (made-longTerm (sound f R) w g (took-reply i))
+  authenticate-issued {r} g i = let d = took-reply i in made-reply f r (d .0) (made-longTerm (sound f R) w g (d .1))
 
   pub accept-issued : {r a b k ts ta : ℕ} → Good R b → Did l (Accept r a b k ts ta) → (n : ℕ) × Did l (Issue k a b ts n)
   accept-issued g i = made-ticket f (made-longTerm (sound f R) w g (left (took-ticket i)))
@@ -61,7 +62,7 @@ module _ {f : Form} {R : Realm} {l : Log} (w : Trace f R l) where
   module _ {X : ℕ → Type 0} (safe : Safe (origins f) R l X) {k : ℕ} (x : X k) where
     -- An initiator run took it from a reply of the server's to its own nonce,
     pub authenticate-kept : {r a b ts ta : ℕ} → Did l (Authenticate r a b k ts ta) → Did l (Issue k a b ts r)
-    authenticate-kept {r} i = made-reply f r (made-showing (sound f R) w safe x (in-left itself) (took-reply i))
+    authenticate-kept {r} i = let d = took-reply i in made-reply f r (d .0) (made-showing (sound f R) w safe x (in-left itself) (d .1))
 
     -- a responder run from a ticket of the server's,
     pub accept-kept : {r a b ts ta : ℕ} → Did l (Accept r a b k ts ta) → (n : ℕ) × Did l (Issue k a b ts n)

@@ -12,7 +12,7 @@ use Rattle.traces.specs.Terms.{given}
 use Rattle.terms.specs.Choice.{cond-first}
 use Rattle.terms.specs.Meaning.{keyOf}
 use Rattle.terms.specs.Message.{longTerm, session, Message, principal, time, nonce, key, pair, encrypted}
-use Rattle.layers.specs.Layers.{PRINCIPAL, TIME, LONG_TERM_KEY, SESSION_KEY, PAIR, ENCRYPTED, kind, number, operands, ofKind, atom, layer, first, under, after, _▸_}
+use Rattle.layers.specs.Layers.{PRINCIPAL, TIME, NONCE, LONG_TERM_KEY, SESSION_KEY, PAIR, ENCRYPTED, kind, number, operands, ofKind, atom, layer, first, under, after, _▸_}
 
 -- ---- what is of a kind
 
@@ -184,6 +184,10 @@ module _ {A : Type 0} (l : Message → Option (ℕ × Message)) (s : Message →
   unfolding _▸_
   goes-back v w e = after-back (l m) v w e
 
+-- a layer with all that is left
+pub reads-rest : {l : Message → Option (ℕ × Message)} {outer : ℕ → Message → Message} → Layer l outer → Reads l (λ x. outer (x .0) (x .1))
+reads-rest L = record { back = λ m x e. L .back m (x .0) (x .1) e; forth = λ x. L .forth (x .0) (x .1) }
+
 pub reads-▸ : {A : Type 0} {l : Message → Option (ℕ × Message)} {outer : ℕ → Message → Message} {s : Message → Option A} {inner : A → Message}
     → Layer l outer → Reads s inner → Reads (l ▸ s) (λ x. outer (x .0) (inner (x .1)))
 reads-▸ {l = l} {outer} {s} {inner} L S =
@@ -198,6 +202,9 @@ reads-▸ {l = l} {outer} {s} {inner} L S =
 
 pub principal-first : Layer (first PRINCIPAL) (λ v x. pair (principal v) x)
 principal-first = layer-first PRINCIPAL (omega arith)
+
+pub nonce-first : Layer (first NONCE) (λ v x. pair (nonce v) x)
+nonce-first = layer-first NONCE (omega arith)
 
 pub time-first : Layer (first TIME) (λ v x. pair (time v) x)
 time-first = layer-first TIME (omega arith)

@@ -19,11 +19,11 @@ use Rattle.layers.specs.Laws.Layers.{of-kind, layer-other, layer-some}
 
 -- ---- an answer is known by its case
 
-pub opens : {r s : Opened} → r ≡ s → (ts : List ℕ) (o : Option (ℕ × Message)) → Opens ts (read r) o → Opens ts (read s) o
-opens e ts o h = subst (λ (r : Opened). Opens ts (read r) o) e h
+pub opens : {r s : Opened} → r ≡ s → (ts : List ℕ) (i : ℕ) (o : Option (ℕ × Message)) → Opens ts i (read r) o → Opens ts i (read s) o
+opens e ts i o h = subst (λ (r : Opened). Opens ts i (read r) o) e h
 
-pub opens-time : {r s : OpenedTime} → r ≡ s → (ts : List ℕ) (o : Option (ℕ × Message)) → Opens ts (readTime r) o → Opens ts (readTime s) o
-opens-time e ts o h = subst (λ (r : OpenedTime). Opens ts (readTime r) o) e h
+pub opens-time : {r s : OpenedTime} → r ≡ s → (ts : List ℕ) (i : ℕ) (o : Option (ℕ × Message)) → Opens ts i (readTime r) o → Opens ts i (readTime s) o
+opens-time e ts i o h = subst (λ (r : OpenedTime). Opens ts i (readTime r) o) e h
 
 -- ---- a term's message, kind and operands
 

@@ -75,13 +75,13 @@ module _ {ts : List ℕ} {i : ℕ} (p : Present ts i) (k : ℕ) (h : k < 7) wher
     first-not among = first-other p e k (other (pair-operands p e .0) v k h among)
 
     pub first-is : kind (messageOf (messageAt ts) t) ≡ k
-        → (first k (messageAt ts i) ≡ some (number (messageOf (messageAt ts) t), messageAt ts r)) × Present ts r
-    first-is q = (first-here p e k (atom-here (pair-operands p e .0) v k q), pair-operands p e .1)
+        → (first k (messageAt ts i) ≡ some (number (messageOf (messageAt ts) t), messageAt ts r)) × Present ts r × (r < i)
+    first-is q = (first-here p e k (atom-here (pair-operands p e .0) v k q), pair-operands p e .1, fields-here p e .1)
 
   module _ {b j : ℕ} (e : Encrypted b j ≡ termAt ts i) {t : Term} (v : t ≡ termAt ts j) where
     pub under-not : OneOf (others k) (tagOf the-type t) → under k (messageAt ts i) ≡ none
     under-not among = under-other p e k (other (encrypted-operands p e .1) v k h among)
 
     pub under-is : kind (messageOf (messageAt ts) t) ≡ k
-        → (under k (messageAt ts i) ≡ some (number (messageOf (messageAt ts) t), messageAt ts b)) × Present ts b
-    under-is q = (under-here p e k (atom-here (encrypted-operands p e .1) v k q), encrypted-operands p e .0)
+        → (under k (messageAt ts i) ≡ some (number (messageOf (messageAt ts) t), messageAt ts b)) × Present ts b × (b < i)
+    under-is q = (under-here p e k (atom-here (encrypted-operands p e .1) v k q), encrypted-operands p e .0, fields-here p e .0)

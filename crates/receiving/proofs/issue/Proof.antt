@@ -58,13 +58,13 @@ cast-responder c =
 
 returns-4 : tie.Need-returns-4
 returns-4 c ws =
-    let g = c .before .before in
+    let g = c .before .before .before in
     let f = g .before .before in
     let e = f .before .before .before in
     let a = e .before .before .before .args in
     let x = f .a .given .0 in
     ap (need (derivableAt (a .h) (a .terms .now) ws (a .m)) 15) (c .issued .ensures)
-    ∙ request-asked (a .h) (a .terms .now) ws (a .m) (e .if1 .left) (x .0) (x .1 .0) (x .1 .1 .0) (is f) (apart g)
+    ∙ request-asked (a .h) (a .terms .now) ws (a .m) (e .if1 .left) (x .0) (x .1 .0) (x .1 .1 .0) (is f) (apart g) _ (c .before .form-of .ensures)
 
 pub issue-spec : {M : Type 1} → statement M
 issue-spec =
@@ -79,5 +79,6 @@ issue-spec =
     (λ c. search needs)
     cast-initiator
     cast-responder
+    (λ c κs. search needs)
     (λ c κs. search needs)
     returns-4)

@@ -1,7 +1,7 @@
 -- A step is decided alike on tables that are alike below the counts: by its row of the step table, with what is read of each table.
 -- Assumes nothing.
 use Prim.Native.Nat.{ℕ, zero, suc, _<_}
-use mathlib.Core.Path.{_≡_, refl, ap, _∙_}
+use mathlib.Core.Path.{_≡_, refl, ap, ap₂, _∙_}
 use mathlib.Core.Bool.{Bool, true, false, not, _&&_}
 use mathlib.Core.List.{List}
 use borrow.Author.Tests.{eqb-true}
@@ -9,14 +9,15 @@ use lib.Dec.{leb, eqb}
 use lib.ListN.{length}
 use Rattle.terms.specs.Meaning.{messageAt}
 use Rattle.terms.specs.Message.{Message}
-use Rattle.terms.specs.Number.{termsOf}
+use Rattle.terms.specs.Number.{numberIn, termsOf}
 use Rattle.sending.specs.Send.{enteredAll}
 use Rattle.exchange.specs.declared.run.Row.{Row}
-use Rattle.forms.specs.Forms.{requestIn, replyIn, confirmationIn}
+use Rattle.exchange.specs.Forms.{formOf}
+use Rattle.kerberos.specs.Messages.{presented}
+use Rattle.forms.specs.Forms.{requestIn, confirmationIn}
+use Rattle.forms.specs.Grant.{Granted, Is, Other, grantIn}
 use Rattle.forms.specs.declared.Confirmation.{Confirmation}
 use Rattle.forms.specs.declared.Confirmation.the-variants as confirmations
-use Rattle.forms.specs.declared.Reply.{Reply}
-use Rattle.forms.specs.declared.Reply.the-variants as replies
 use Rattle.forms.specs.declared.Request.{Request}
 use Rattle.forms.specs.declared.Request.the-variants as requests
 use Rattle.forms.specs.Delivery.{deliveryIn}
@@ -34,25 +35,29 @@ use Rattle.realm.specs.Tables.{Tables, tables, Together}
 use Rattle.conditions.specs.Conditions.{derivableAt, ticketLives, admission}
 use Rattle.decisions.specs.declared.Verdict.{Verdict}
 use Rattle.decisions.specs.declared.Verdict.the-variants.{Takes, Refused}
-use Rattle.decisions.specs.Decision.{need, onRequest, issues, onReply, authenticates, onDelivery, takes, onConfirmation, finishes}
+use Rattle.decisions.specs.Decision.{need, onRequest, issues, onGrant, authenticates, onDelivery, takes, onConfirmation, finishes}
 use Rattle.decisions.specs.Decision.{roomForRun, named, opensRun, ticks, queries, stepOf, decided, roomed, decision}
+use Rattle.decisions.specs.declared.Sends.{Sends}
+use Rattle.decisions.specs.declared.Sends.the-variants as sending
+use Rattle.decisions.specs.Laws.Fits.{Carries}
+use Rattle.decisions.specs.Promises.{taken-fits}
 use Rattle.decisions.specs.Effects.{issuing, authenticating, accepting, finishing, nothing, leaking, messagesOf}
 use Rattle.simulation.specs.Unread.Reads.{message-same, derivable-same, run-same, admission-same}
 
 -- ---- the steps that take a message
 
-module _ (h : Realm) (ts ts′ ws : List ℕ) (m : ℕ) (d : derivableAt h ts ws m ≡ derivableAt h ts′ ws m) where
+module _ (h : Realm) (ts ts′ ws : List ℕ) (m : ℕ) (same-terms : termsOf ts (h .terms) ≡ termsOf ts′ (h .terms)) (d : derivableAt h ts ws m ≡ derivableAt h ts′ ws m) where
   on-request : (q : Request) → onRequest h ts ws m q ≡ onRequest h ts′ ws m q
   on-request requests.Other = refl
   on-request (requests.Is a b n) =
-      ap (λ (can : Bool). need (not (eqb a 0) && not (eqb b 0) && not (eqb a b)) 14 (need can 15 (Takes (issuing (h .clock) (h .runs) a b n)))) d
+      ap (λ (can : Bool). need (not (eqb a 0) && not (eqb b 0) && not (eqb a b)) 14 (need can 15 (Takes (issuing (h .clock) (formOf (h .rules)) (h .runs) a b n)))) d
 
   module _ (r : ℕ) (own : Row) where
-    on-reply : (q : Reply) → onReply h ts ws r own m q ≡ onReply h ts′ ws r own m q
-    on-reply replies.Other = refl
-    on-reply (replies.Is k b t n a) =
-        ap (λ (can : Bool). need (eqb b (own .b) && eqb n r && eqb a (own .a)) 14
-        (need can 15 (need (ticketLives h t) 16 (Takes (authenticating (h .clock) r (own .a) (own .b) k t))))) d
+    on-grant : (q : Granted) → onGrant h ts ws r own m q ≡ onGrant h ts′ ws r own m q
+    on-grant Other = refl
+    on-grant (Is k b t n a x) =
+        ap₂ (λ (can : Bool) (xs : List ℕ). need (eqb b (own .b) && eqb n r && eqb a (own .a)) 14
+        (need can 15 (need (ticketLives h t) 16 (Takes (authenticating (h .clock) (formOf (h .rules)) r (own .a) (own .b) k t (numberIn xs x)))))) d same-terms
 
     on-confirmation : (q : Confirmation) → onConfirmation h ts ws r own m q ≡ onConfirmation h ts′ ws r own m q
     on-confirmation confirmations.Other = refl
@@ -104,22 +109,22 @@ module _ (h : Realm) {ts ts′ rs rs′ : List ℕ} (ws : List ℕ) {c c′ : Li
   by-step (suc (suc zero)) r a b m now f = refl
   by-step (suc (suc (suc zero))) r a b m now f =
       ap (λ (x : Message). need (roomForRun h) 13 (onRequest h ts ws m (requestIn x))) (means-same m (f .m refl))
-      ∙ ap (need (roomForRun h) 13) (on-request h ts ts′ ws m (can-same m (f .m refl)) (requestIn (messageAt ts′ m)))
+      ∙ ap (need (roomForRun h) 13) (on-request h ts ts′ ws m same-terms (can-same m (f .m refl)) (requestIn (messageAt ts′ m)))
   by-step (suc (suc (suc (suc zero)))) r a b m now f =
       let own = runAt rs′ r in
-      ap (λ (x : Row). named 4 x (onReply h ts ws r x m (replyIn (messageAt ts m)))) (own-same r (f .run refl))
-      ∙ ap (λ (x : Message). named 4 own (onReply h ts ws r own m (replyIn x))) (means-same m (f .m refl))
-      ∙ ap (named 4 own) (on-reply h ts ts′ ws m (can-same m (f .m refl)) r own (replyIn (messageAt ts′ m)))
+      ap (λ (x : Row). named 4 x (onGrant h ts ws r x m (grantIn (formOf (h .rules)) (messageAt ts m)))) (own-same r (f .run refl))
+      ∙ ap (λ (x : Message). named 4 own (onGrant h ts ws r own m (grantIn (formOf (h .rules)) x))) (means-same m (f .m refl))
+      ∙ ap (named 4 own) (on-grant h ts ts′ ws m same-terms (can-same m (f .m refl)) r own (grantIn (formOf (h .rules)) (messageAt ts′ m)))
   by-step (suc (suc (suc (suc (suc zero))))) r a b m now f =
       let own = runAt rs′ r in
       ap (λ (x : Row). named 5 x (onDelivery h ts ws c r x m (deliveryIn (messageAt ts m)))) (own-same r (f .run refl))
       ∙ ap (λ (x : Message). named 5 own (onDelivery h ts ws c r own m (deliveryIn x))) (means-same m (f .m refl))
-      ∙ ap (named 5 own) (on-delivery h ts ts′ ws m (can-same m (f .m refl)) r own c c′ same-entries (deliveryIn (messageAt ts′ m)))
+      ∙ ap (named 5 own) (on-delivery h ts ts′ ws m same-terms (can-same m (f .m refl)) r own c c′ same-entries (deliveryIn (messageAt ts′ m)))
   by-step (suc (suc (suc (suc (suc (suc zero)))))) r a b m now f =
       let own = runAt rs′ r in
       ap (λ (x : Row). named 6 x (onConfirmation h ts ws r x m (confirmationIn (messageAt ts m)))) (own-same r (f .run refl))
       ∙ ap (λ (x : Message). named 6 own (onConfirmation h ts ws r own m (confirmationIn x))) (means-same m (f .m refl))
-      ∙ ap (named 6 own) (on-confirmation h ts ts′ ws m (can-same m (f .m refl)) r own (confirmationIn (messageAt ts′ m)))
+      ∙ ap (named 6 own) (on-confirmation h ts ts′ ws m same-terms (can-same m (f .m refl)) r own (confirmationIn (messageAt ts′ m)))
   by-step (suc (suc (suc (suc (suc (suc (suc zero))))))) r a b m now f = refl
   by-step (suc (suc (suc (suc (suc (suc (suc (suc zero)))))))) r a b m now f = refl
   by-step (suc (suc (suc (suc (suc (suc (suc (suc (suc zero))))))))) r a b m now f =
@@ -134,10 +139,21 @@ module _ (h : Realm) {ts ts′ rs rs′ : List ℕ} (ws : List ℕ) {c c′ : Li
       need-same (eqb (inputRefusal h s) 0) (inputRefusal h s) (stepOf one s) (stepOf other s)
       (λ e. by-step (s .step) (s .run) (s .a) (s .b) (s .m) (s .t) (in-range h (usesOf (s .step)) s (passed h s (eqb-true (inputRefusal h s) 0 e) .range)))
 
-  roomed-same : (v : Verdict) → roomed one v ≡ roomed other v
-  roomed-same (Refused k) = refl
-  roomed-same (Takes x) = ap (λ (xs : List ℕ). need (leb (length (enteredAll xs (messagesOf (x .sends)))) 512) 20 (Takes x)) same-terms
+  -- what is sent, a term that is passed on being below the count
+  pub sends-same : (x : Sends) → Carries (h .terms) x → messagesOf ts x ≡ messagesOf ts′ x
+  sends-same sending.Nothing l = refl
+  sends-same (sending.Request a b n) l = refl
+  sends-same (sending.Issue f k a b now n) l = refl
+  sends-same (sending.Presented f a ta k x) l = ap (presented f a ta k) (means-same x l)
+  sends-same (sending.Confirmation ta k) l = refl
+  sends-same (sending.Key k) l = refl
+
+  roomed-same : (s : Step) (v : Verdict) → decided other s ≡ v → roomed one v ≡ roomed other v
+  roomed-same s (Refused k) e = refl
+  roomed-same s (Takes x) e =
+      ap₂ (λ (xs : List ℕ) (ms : List Message). need (leb (length (enteredAll xs ms)) 512) 20 (Takes x)) same-terms
+      (sends-same (x .sends) (taken-fits other s w′ e .carries))
 
   pub decision-same : (s : Step) → decision one s ≡ decision other s
   unfolding decision
-  decision-same s = ap (roomed one) (decided-same s) ∙ roomed-same (decided other s)
+  decision-same s = ap (roomed one) (decided-same s) ∙ roomed-same s (decided other s) refl

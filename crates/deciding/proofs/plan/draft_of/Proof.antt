@@ -10,10 +10,10 @@ returns-2 : tie.Need-returns-2
 returns-2 c = rw (c .before .before .sends .given .1) (c .lay-request .ensures)
 
 returns-3 : tie.Need-returns-3
-returns-3 c = rw (c .before .before .sends2 .given .1) (c .lay-issue .ensures)
+returns-3 c = rw (c .before .before .sends2 .given .1) (c .issue-draft .ensures)
 
 returns-4 : tie.Need-returns-4
-returns-4 c = rw (c .before .before .sends3 .given .1) (c .lay-authenticator .ensures)
+returns-4 c = rw (c .before .before .sends3 .given .1) (c .lay-presented .ensures)
 
 returns-5 : tie.Need-returns-5
 returns-5 c = rw (c .before .before .sends4 .given .1) (c .lay-confirmation .ensures)

@@ -21,7 +21,7 @@ write-messages-requires c κs =
 write-row-requires : tie.Need-write-row-requires
 write-row-requires c κs =
     let s = c .before .before .before .before .before .before .before .before .before .before .before .before .before in
-    (s .pre .0 .rows-hold .size, row-fits (lent s) (messagesOf (s .args .effect .sends)) (s .args .effect .change) (s .pre .0) (s .pre .1 .fits .row))
+    (s .pre .0 .rows-hold .size, row-fits (lent s) (messagesOf (lent s .terms) (s .args .effect .sends)) (s .args .effect .change) (s .pre .0) (s .pre .1 .fits .row))
 
 cache-after-requires : tie.Need-cache-after-requires
 cache-after-requires c κs =

@@ -16,12 +16,12 @@ sixteen c = search needs
 
 answered : (c : tie.After-entries-hold)
     → let a = c .before .before .before .before .before .before .before .before .args in
-    (c .before .before .before .before .header-fits .result && c .before .before .before .holds-together .result && c .before .before .rows-hold .result
+    (c .before .before .before .before .realm-fits .result && c .before .before .before .holds-together .result && c .before .before .rows-hold .result
     && c .before .wire-holds .result && c .entries-hold .result) ≡ together (tables (a .h) (a .terms .now) (a .runs .now) (a .wire .now) (a .cache))
 unfolding together
 answered c =
     rw (
-      c .before .before .before .before .header-fits .ensures,
+      c .before .before .before .before .realm-fits .ensures,
       c .before .before .before .holds-together .ensures,
       c .before .before .rows-hold .ensures,
       c .before .wire-holds .ensures .0,

@@ -1,0 +1,29 @@
+-- `layouts::lay_nested_issue` meets its contract: the places written are the list of the definition. Assumes nothing.
+use mathlib.Core.Path.{refl}
+use borrow.Author.Needs.{needs}
+use Rattle.layouts.specs.Drafts.{nestedIssueDraft}
+use Rattle.layouts.proofs.lay_nested_issue.Statement.{statement}
+use Rattle.layouts.proofs.lay_nested_issue.Tie as tie
+
+returns : tie.Need-returns
+unfolding nestedIssueDraft
+returns c = refl
+
+pub lay-nested-issue-spec : {M : Type 1} → statement M
+lay-nested-issue-spec =
+    tie.close
+    (tie.spec
+    (λ c. search needs)
+    (λ c. search needs)
+    (λ c. search needs)
+    (λ c. search needs)
+    (λ c. search needs)
+    (λ c. search needs)
+    (λ c. search needs)
+    (λ c. search needs)
+    (λ c. search needs)
+    (λ c. search needs)
+    (λ c. search needs)
+    (λ c. search needs)
+    (λ c. search needs)
+    returns)
