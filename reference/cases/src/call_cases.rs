@@ -194,12 +194,18 @@ fn lines_between(now: &World, wanted: &World) -> Vec<Line> {
     let (old, new) = (&now.tables, &wanted.tables);
     let mut lines = Vec::new();
     let mut set = |letter: char, numbers: &[u32]| lines.push(Line::new(letter, numbers));
-    let (settings, counts, lent) = (new.settings, new.counts, wanted.lent);
-    if (old.settings, old.clock, now.lent.cache) != (settings, new.clock, lent.cache) {
-        let Settings { principals, flags, ticket_life, authenticator_life } = settings;
-        let lives = [ticket_life, authenticator_life];
-        let places = lent.cache as u32;
-        set('H', &[principals.into(), flags, lives[0], lives[1], new.clock, places]);
+    let (counts, lent) = (new.counts, wanted.lent);
+    let header = |world: &World| {
+        let Settings { principals, flags, ticket_life, authenticator_life, .. } =
+            world.tables.settings;
+        let (clock, places) = (world.tables.clock, world.lent.cache as u32);
+        [principals.into(), flags, ticket_life, authenticator_life, clock, places]
+    };
+    if header(now) != header(wanted) {
+        set('H', &header(wanted));
+    }
+    if old.settings.rules != new.settings.rules {
+        set('G', &[new.settings.rules.into()]);
     }
     let others = |lent: Lent| (lent.terms, lent.runs, lent.wire);
     if (old.counts, others(now.lent)) != (counts, others(lent)) {
