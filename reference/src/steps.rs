@@ -60,8 +60,8 @@ impl Realm {
     }
 
     /// Step 3 opens a server run r; K is session key r, Ts the clock. It sends
-    /// {K, b, Ts, N} under a's key, then the ticket, {K, a, Ts} under b's key; the
-    /// pair of the two; or {K, b, Ts, N, ticket} under a's key.
+    /// {K, b, Ts, N} under a's key, then the ticket, {K, a, Ts} under b's key. Under
+    /// H5 it sends the pair of the two, under H4 {K, b, Ts, N, ticket} under a's key.
     fn serve(&mut self, message: &Message) -> Taken {
         self.check_room_for_run()?;
         let Request { a, b, nonce } = read_request(message).ok_or(Refusal::WrongForm)?;
@@ -86,9 +86,9 @@ impl Realm {
         Ok(self.open(Run { role: Role::Server, a, b, stage: Stage::Done, held: Some(held) }))
     }
 
-    /// Step 4 takes {K, b, Ts, own nonce} under a's key; the pair of that and any X;
-    /// or {K, b, Ts, own nonce, any X} under a's key. Ta becomes the clock. It sends
-    /// {a, Ta}K; where there is an X, the pair of X and that.
+    /// Step 4 takes {K, b, Ts, own nonce} under a's key; Ta becomes the clock. It
+    /// sends {a, Ta}K. Under H5 it takes the pair of that part and any X, under H4
+    /// the part with any X in its last place, and sends the pair of X and {a, Ta}K.
     fn initiator_takes_key(&mut self, run: usize, message: &Message) -> Taken {
         let Run { a, b, .. } = self.check_run(run, Role::Initiator, Stage::Opened)?;
         let rules = self.settings.rule_set()?;

@@ -5,6 +5,8 @@ use std::process::Command;
 
 use compare::{first_difference, Difference, Engine, Outcome};
 
+type Listing = fn(&[u8]) -> Vec<u8>;
+
 fn same(file: &[u8]) -> Vec<u8> {
     reference::listing(file).into_bytes()
 }
@@ -86,9 +88,7 @@ fn a_wrong_engine_is_found() {
 
 #[test]
 fn engines_that_miscount_terms_are_found() {
-    for (engine, line) in
-        [(all_new as fn(&[u8]) -> Vec<u8>, " old"), (silent, " +0"), (adding_up, " +")]
-    {
+    for (engine, line) in [(all_new as Listing, " old"), (silent, " +0"), (adding_up, " +")] {
         let outcome = over(Engine::Function(engine), 300);
         assert!(outcome.different > 10, "{}", outcome.different);
         let (_, difference) = outcome.first.unwrap();
@@ -98,8 +98,7 @@ fn engines_that_miscount_terms_are_found() {
 
 #[test]
 fn engines_that_take_one_rule_set_for_another_are_found() {
-    let wrong: [fn(&[u8]) -> Vec<u8>; 4] =
-        [old_rules_under_h5, old_rules_under_h4, h4_under_h5, h5_under_hw];
+    let wrong: [Listing; 4] = [old_rules_under_h5, old_rules_under_h4, h4_under_h5, h5_under_hw];
     for engine in wrong {
         let outcome = over(Engine::Function(engine), 300);
         assert!(outcome.different > 20, "{}", outcome.different);

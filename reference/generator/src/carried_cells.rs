@@ -23,12 +23,12 @@ fn name(rules: Rules) -> &'static str {
     }
 }
 
-/// What stands before the way of a cell that is told by the rule set.
-pub fn under(rules: Rules) -> &'static str {
+/// What stands before the way of a cell that is told by the rule set: nothing for the
+/// old one.
+pub fn under(rules: Rules) -> String {
     match rules {
-        Rules::Apart => "",
-        Rules::Beside => "H5, ",
-        Rules::Within => "H4, ",
+        Rules::Apart => String::new(),
+        _ => format!("{}, ", name(rules)),
     }
 }
 

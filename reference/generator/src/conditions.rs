@@ -272,7 +272,7 @@ fn message_facts(realm: &Realm, record: &StepRecord, message: &Message, facts: &
     if misfits.is_empty() || step == 6 {
         facts.read = Some(read);
     }
-    let set = if step == 4 { under(rules) } else { "" };
+    let set = if step == 4 { under(rules) } else { String::new() };
     for misfit in misfits {
         facts.refuse(14, &format!("{set}{misfit}"));
     }

@@ -4,7 +4,7 @@
 //! written as data. So they can be filled in, filled in with one part wrong, and
 //! asked which parts of a message do not fit.
 
-use reference::realm::{Realm, Run};
+use reference::realm::Realm;
 use reference::rules::Rules;
 use reference::terms::{Message, Shape};
 
@@ -101,7 +101,7 @@ pub fn form(realm: &Realm, step: u8, number: u8, key: Option<u32>) -> Option<Pat
     if step == 3 {
         return Some(request());
     }
-    let run: &Run = realm.runs.get(usize::from(number))?;
+    let run = realm.runs.get(usize::from(number))?;
     match step {
         4 => Some(reply(rules(realm), run.a, run.b, number)),
         5 => Some(delivery(run.a, run.b, key)),

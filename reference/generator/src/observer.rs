@@ -204,7 +204,7 @@ impl Observer {
             return;
         }
         let full = count == MAX_TERMS;
-        let set = if [3, 4].contains(&step) { under(rules) } else { "" };
+        let set = if [3, 4].contains(&step) { under(rules) } else { String::new() };
         self.met(&format!("step {step} / ok / {set}adds {added}"));
         self.met_if(full && added == 0, &format!("step {step} / ok / full table"));
         self.met_if(full && added > 0, &format!("step {step} / ok / last place"));

@@ -106,23 +106,17 @@ fn known_parts_are_any_number() {
     for number in 0..400 {
         tally.add(&known_parts(&mut Random::new(SEED, number)).bytes);
     }
-    let steps = [(Rules::Apart, ""), (Rules::Beside, "H5, "), (Rules::Within, "H4, ")].map(
-        |(rules, set)| match rules {
-            Rules::Apart => {
-                vec![(1, rules, set), (3, rules, set), (4, rules, set), (5, rules, set)]
-            }
-            _ => vec![(3, rules, set), (4, rules, set)],
-        },
-    );
-    for (step, rules, set) in steps.concat() {
+    let apart = [1, 3, 4, 5].map(|step| (step, Rules::Apart, ""));
+    let carried = [(Rules::Beside, "H5, "), (Rules::Within, "H4, ")];
+    let carried = carried.into_iter().flat_map(|(rules, set)| [(3, rules, set), (4, rules, set)]);
+    for (step, rules, set) in apart.into_iter().chain(carried) {
         for added in 0..=most_added(step, rules) {
             let cell = format!("step {step} / ok / {set}adds {added}");
             assert!(tally.count(&cell) > 0, "never met: {cell}");
         }
     }
     let adds = |cell: &&String| cell.contains(" / ok / ") && cell.contains("adds ");
-    let carried = 2 * (13 + 5);
-    assert_eq!(tally.counts.keys().filter(adds).count(), 6 + 12 + 4 + 2 + carried);
+    assert_eq!(tally.counts.keys().filter(adds).count(), 6 + 12 + 4 + 2 + 2 * (13 + 5));
 }
 
 #[test]
