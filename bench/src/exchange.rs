@@ -1,9 +1,11 @@
 //! Honest exchanges, record by record.
 
+use generator::forms::rules;
 use generator::random::Random;
 use generator::walk::Walk;
 use reference::file::{Header, StepRecord};
 use reference::realm::Answer;
+use reference::rules::Rules;
 use reference::terms::{Message, Shape};
 
 use Shape::{LongTermKey, Nonce, Principal, SessionKey, Time};
@@ -11,6 +13,7 @@ use Shape::{LongTermKey, Nonce, Principal, SessionKey, Time};
 pub const STEP: StepRecord = StepRecord { step: 0, run: 0, a: 0, b: 0, message: 0, time: 0 };
 
 /// The runs and the terms of one exchange, as far as it has come; the others are 0.
+/// The reply is what step 4 takes by the realm's rule set.
 #[derive(Clone, Debug, Default)]
 pub struct Exchange {
     pub a: u8,
@@ -52,8 +55,18 @@ impl Exchange {
         let message = number(walk, &request);
         self.server = opens(walk, StepRecord { step: 3, message, ..STEP });
         let (key, clock) = (SessionKey(self.server), Time(walk.realm.clock));
-        self.reply = sent(walk, &[key.clone(), b, clock.clone(), nonce], LongTermKey(self.a));
-        self.ticket = sent(walk, &[key, a, clock], LongTermKey(self.b));
+        let mut part = vec![key.clone(), b, clock.clone(), nonce];
+        let ticket = encrypted(walk, &[key, a, clock], LongTermKey(self.b));
+        let rules = rules(&walk.realm);
+        if rules == Rules::Within {
+            part.push(ticket.shape().clone());
+        }
+        let mut reply = encrypted(walk, &part, LongTermKey(self.a));
+        self.ticket = number(walk, &ticket);
+        if rules == Rules::Beside {
+            reply = walk.realm.terms.pair(reply, ticket);
+        }
+        self.reply = number(walk, &reply);
     }
 
     pub fn takes(&self) -> StepRecord {
@@ -64,13 +77,17 @@ impl Exchange {
     pub fn takes_key(&mut self, walk: &mut Walk) {
         accepted(walk, self.takes());
         let body = [Principal(self.a), Time(walk.realm.clock)];
-        self.authenticator = sent(walk, &body, SessionKey(self.server));
+        let authenticator = encrypted(walk, &body, SessionKey(self.server));
+        self.authenticator = number(walk, &authenticator);
     }
 
-    /// Step 2, and the term that step 5 takes.
+    /// Step 2, and the term that step 5 takes, where step 4 has not sent it.
     pub fn meets(&mut self, walk: &mut Walk) {
         self.responder = opens(walk, StepRecord { step: 2, a: self.a, b: self.b, ..STEP });
-        self.delivery = term(walk, 5, self.ticket, self.authenticator);
+        let [ticket, authenticator] = [self.ticket, self.authenticator]
+            .map(|number| walk.realm.terms.at(number).expect("a step sent it").clone());
+        let delivery = walk.realm.terms.pair(ticket, authenticator);
+        self.delivery = spelt(walk, &delivery);
     }
 
     /// The ticket with an authenticator of this time, which nobody need have sent.
@@ -138,12 +155,7 @@ pub fn encrypted(walk: &mut Walk, body: &[Shape], key: Shape) -> Message {
     terms.encrypt(body, key)
 }
 
-/// The number of an encrypted list that a step sent.
-fn sent(walk: &mut Walk, body: &[Shape], key: Shape) -> u16 {
-    let message = encrypted(walk, body, key);
-    number(walk, &message)
-}
-
+/// The number of a message that a step sent, or of a part of one.
 fn number(walk: &Walk, message: &Message) -> u16 {
     walk.realm.terms.number(message).expect("the message was sent")
 }

@@ -25,8 +25,10 @@ const fn written(name: &'static str, files: fn(usize) -> Vec<Vec<u8>>) -> Row {
     Row { name, work: Work::Write, files }
 }
 
-pub const ROWS: [Row; 11] = [
+pub const ROWS: [Row; 13] = [
     listed("a long honest walk", |eighths| vec![walks::honest(eighths)]),
+    listed("the same under H5", |eighths| vec![walks::honest_under(b"H5", eighths)]),
+    listed("the same under H4", |eighths| vec![walks::honest_under(b"H4", eighths)]),
     listed("terms only", |eighths| vec![walks::terms_only(eighths)]),
     listed("the first of 512 terms again", |eighths| vec![walks::first_term(eighths)]),
     listed("deliveries on full tables, keys in the worst order", |eighths| {

@@ -54,7 +54,12 @@ fn cycle(records: Vec<Record>) -> impl Fn(usize) -> Record {
 /// the messages of the last again and again, as a network doubles them, to their
 /// runs and to a second responder, with clock steps and purges.
 pub fn honest(eighths: usize) -> Vec<u8> {
-    let mut walk = walk(GOOD);
+    honest_under(b"HD", eighths)
+}
+
+/// The same under another mark, by its rule set.
+pub fn honest_under(letters: &[u8; 2], eighths: usize) -> Vec<u8> {
+    let mut walk = walk(Header { mark: mark(letters), ..GOOD });
     let mut exchanges: Vec<Exchange> = Vec::new();
     let mut confirms = STEP;
     for number in 0..MAX_RUNS as u8 / 3 {

@@ -17,6 +17,10 @@ use reference::listing;
 use reference::terms::Message;
 use reference::writing;
 
+/// The honest walk where initiators carry the tickets.
+const CARRIED: [fn(usize) -> Vec<u8>; 2] =
+    [|eighths| walks::honest_under(b"H5", eighths), |eighths| walks::honest_under(b"H4", eighths)];
+
 fn count(answers: &[String], answer: &str) -> usize {
     answers.iter().filter(|found| *found == answer).count()
 }
@@ -38,7 +42,7 @@ fn files_are_the_same_each_time() {
 #[test]
 fn long_files_grow_by_their_records() {
     let with_ticks: [fn(usize) -> Vec<u8>; 2] = [walks::purges, walks::principals];
-    for make in LONG.into_iter().chain(with_ticks) {
+    for make in LONG.into_iter().chain(CARRIED).chain(with_ticks) {
         let filling = lines(&make(0)).len();
         let repeated = lines(&make(1)).len() - filling;
         assert!(repeated > 500);
@@ -52,28 +56,40 @@ fn long_files_grow_by_their_records() {
 
 #[test]
 fn records_that_repeat_leave_the_tables() {
-    for make in LONG {
+    for make in LONG.into_iter().chain(CARRIED) {
         assert_eq!(lines(&make(0)).last(), lines(&make(8)).last());
         assert_eq!(realm(&make(0)).terms.count(), realm(&make(8)).terms.count());
     }
 }
 
 #[test]
-fn the_honest_walk_has_exchanges_of_good_principals() {
-    let filling = answers(&walks::honest(0));
-    assert!(filling.iter().all(|answer| !answer.contains("refused")));
-    let realm = realm(&walks::honest(0));
-    assert_eq!(realm.settings.flags, 0);
-    assert_eq!(realm.runs.len(), 64);
-    let held = realm.runs.iter().filter(|run| run.held.is_some()).count();
-    assert_eq!(held, 63, "all but the second responder");
-    let repeated = answers(&walks::honest(8)).split_off(filling.len());
-    let kinds: BTreeSet<&str> = repeated.iter().map(String::as_str).collect();
-    assert_eq!(kinds.len(), 4, "{kinds:?}");
-    let sixth = repeated.len() / 6;
-    assert_eq!(count(&repeated, "ST refused 18") / sixth, 1);
-    assert_eq!(count(&repeated, "ST refused 11") / sixth, 2);
-    assert_eq!(count(&repeated, "ST ok - +0") / sixth, 2);
+fn the_honest_walks_have_exchanges_of_good_principals() {
+    for (honest, rules) in [walks::honest, CARRIED[0], CARRIED[1]].into_iter().zip(0..) {
+        let filling = answers(&honest(0));
+        assert!(filling.iter().all(|answer| !answer.contains("refused")));
+        let realm = realm(&honest(0));
+        assert_eq!((realm.settings.flags, realm.settings.rules), (0, rules));
+        assert_eq!(realm.runs.len(), 64);
+        let held = realm.runs.iter().filter(|run| run.held.is_some()).count();
+        assert_eq!(held, 63, "all but the second responder");
+        let repeated = answers(&honest(8)).split_off(filling.len());
+        let kinds: BTreeSet<&str> = repeated.iter().map(String::as_str).collect();
+        assert_eq!(kinds.len(), 4, "{kinds:?}");
+        let sixth = repeated.len() / 6;
+        assert_eq!(count(&repeated, "ST refused 18") / sixth, 1);
+        assert_eq!(count(&repeated, "ST refused 11") / sixth, 2);
+        assert_eq!(count(&repeated, "ST ok - +0") / sixth, 2);
+    }
+}
+
+/// What step 4 sends is delivered as it is: no term is spelt for it.
+#[test]
+fn carried_tickets_need_no_terms() {
+    let spelt = |file: &[u8]| {
+        records(file).iter().filter(|record| matches!(record, Record::Term(_))).count()
+    };
+    assert_eq!(spelt(&walks::honest(0)), 21);
+    assert_eq!(CARRIED.map(|honest| spelt(&honest(0))), [0; 2]);
 }
 
 #[test]

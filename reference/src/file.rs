@@ -3,6 +3,7 @@
 
 use crate::marks::{format_at, format_of, MIN_PRINCIPALS};
 use crate::refusal::Refusal;
+use crate::rules::Rules;
 
 pub const MAX_FILE_BYTES: usize = 65_536;
 
@@ -24,6 +25,8 @@ pub struct Header {
 pub struct Settings {
     /// n, the number of principals (the paper's parties).
     pub principals: u8,
+    /// The number of the rule set.
+    pub rules: u8,
     /// Bit p set marks principal p bad.
     pub flags: u32,
     /// Ls.
@@ -33,9 +36,11 @@ pub struct Settings {
 }
 
 impl Header {
+    /// The rule set is the mark's; an unknown mark gets the first.
     pub fn settings(&self) -> Settings {
-        let Header { principals, flags, ticket_life, authenticator_life, .. } = *self;
-        Settings { principals, flags, ticket_life, authenticator_life }
+        let Header { mark, principals, flags, ticket_life, authenticator_life } = *self;
+        let rules = format_of(mark).map_or(Rules::Apart, |format| format.rules).number();
+        Settings { principals, rules, flags, ticket_life, authenticator_life }
     }
 
     /// Refusal 1 for another mark, then 2 by the mark's limit.
@@ -51,6 +56,11 @@ impl Header {
 impl Settings {
     pub fn is_bad(&self, principal: u8) -> bool {
         self.flags >> principal & 1 == 1
+    }
+
+    /// The rule set that they name: "tables naming no such set meet 10".
+    pub fn rule_set(&self) -> Result<Rules, Refusal> {
+        Rules::numbered(self.rules).ok_or(Refusal::BrokenTables)
     }
 
     /// Can a realm of at most so many principals have them? Condition by

@@ -9,6 +9,7 @@ pub mod listing;
 pub mod marks;
 pub mod realm;
 pub mod refusal;
+pub mod rules;
 pub mod steps;
 pub mod tables;
 pub mod terms;

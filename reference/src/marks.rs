@@ -1,19 +1,28 @@
 //! The marks that a file can begin with: one row of one table for each.
 
-/// A header's layout: its mark, the bytes of its flags, and the highest n.
+use crate::rules::Rules;
+
+/// A header's layout: its mark, the bytes of its flags, and the highest n; and the
+/// rule set that the mark names.
 #[derive(Clone, Copy, Debug, PartialEq, Eq)]
 pub struct Format {
     /// The mark as a number, high byte first.
     pub mark: u16,
     pub flag_bytes: usize,
     pub most_principals: u8,
+    pub rules: Rules,
 }
 
 pub const MIN_PRINCIPALS: u8 = 3;
 /// The highest n of any realm, whatever mark its header had.
 pub const MAX_PRINCIPALS: u8 = 32;
 
-pub const FORMATS: [Format; 2] = [Format::new(b"HD", 2, 16), Format::new(b"HW", 4, MAX_PRINCIPALS)];
+pub const FORMATS: [Format; 4] = [
+    Format::new(b"HD", 2, 16, Rules::Apart),
+    Format::wide(b"HW", Rules::Apart),
+    Format::wide(b"H5", Rules::Beside),
+    Format::wide(b"H4", Rules::Within),
+];
 
 /// The format with this mark, if there is one.
 pub fn format_of(mark: u16) -> Option<&'static Format> {
@@ -36,8 +45,18 @@ pub fn letters(mark: u16) -> String {
 }
 
 impl Format {
-    const fn new(letters: &[u8; 2], flag_bytes: usize, most_principals: u8) -> Format {
-        Format { mark: mark(letters), flag_bytes, most_principals }
+    const fn new(
+        letters: &[u8; 2],
+        flag_bytes: usize,
+        most_principals: u8,
+        rules: Rules,
+    ) -> Format {
+        Format { mark: mark(letters), flag_bytes, most_principals, rules }
+    }
+
+    /// "the layout and limits of HW"
+    const fn wide(letters: &[u8; 2], rules: Rules) -> Format {
+        Format::new(letters, 4, MAX_PRINCIPALS, rules)
     }
 
     /// Mark, n, flags, Ls and La.

@@ -4,6 +4,7 @@
 use crate::file::StepRecord;
 use crate::realm::{Entry, Held, Realm, Role, Run, Stage, MAX_ENTRIES, MAX_RUNS};
 use crate::refusal::Refusal;
+use crate::rules::Rules;
 use crate::terms::{Message, Shape};
 
 /// Step 3's m: [a, b, any nonce N].
@@ -59,32 +60,49 @@ impl Realm {
     }
 
     /// Step 3 opens a server run r; K is session key r, Ts the clock. It sends
-    /// {K, b, Ts, N} under a's key, then {K, a, Ts} under b's key.
+    /// {K, b, Ts, N} under a's key, then the ticket, {K, a, Ts} under b's key. Under
+    /// H5 it sends the pair of the two, under H4 {K, b, Ts, N, ticket} under a's key.
     fn serve(&mut self, message: &Message) -> Taken {
         self.check_room_for_run()?;
         let Request { a, b, nonce } = read_request(message).ok_or(Refusal::WrongForm)?;
         self.check_derivable(message)?;
         let session_key = self.next_run();
         let (key, time) = (Shape::SessionKey(session_key), Shape::Time(self.clock));
-        let for_a = [key.clone(), Shape::Principal(b), time.clone(), Shape::Nonce(nonce)];
+        let ticket = [key.clone(), Shape::Principal(a), time.clone()];
+        let ticket = self.encrypted_list(&ticket, Shape::LongTermKey(b));
+        let rules = self.settings.rule_set()?;
+        let mut for_a = vec![key, Shape::Principal(b), time, Shape::Nonce(nonce)];
+        if rules == Rules::Within {
+            for_a.push(ticket.shape().clone());
+        }
         let for_a = self.encrypted_list(&for_a, Shape::LongTermKey(a));
-        let ticket = self.encrypted_list(&[key, Shape::Principal(a), time], Shape::LongTermKey(b));
-        self.send(vec![for_a, ticket])?;
+        let sent = match rules {
+            Rules::Apart => vec![for_a, ticket],
+            Rules::Beside => vec![self.terms.pair(for_a, ticket)],
+            Rules::Within => vec![for_a],
+        };
+        self.send(sent)?;
         let held = Held { session_key, ticket_time: self.clock, authenticator_time: None };
         Ok(self.open(Run { role: Role::Server, a, b, stage: Stage::Done, held: Some(held) }))
     }
 
-    /// Step 4 takes {K, b, Ts, own nonce} under a's key; Ta becomes the clock.
-    /// It sends {a, Ta}K.
+    /// Step 4 takes {K, b, Ts, own nonce} under a's key; Ta becomes the clock. It
+    /// sends {a, Ta}K. Under H5 it takes the pair of that part and any X, under H4
+    /// the part with any X in its last place, and sends the pair of X and {a, Ta}K.
     fn initiator_takes_key(&mut self, run: usize, message: &Message) -> Taken {
         let Run { a, b, .. } = self.check_run(run, Role::Initiator, Stage::Opened)?;
-        let ticket = read_initiator_part(message, a, b, run).ok_or(Refusal::WrongForm)?;
+        let rules = self.settings.rule_set()?;
+        let (ticket, x) = read_reply(rules, message, a, b, run).ok_or(Refusal::WrongForm)?;
         self.check_derivable(message)?;
         self.check_ticket_alive(ticket.time)?;
         let authenticator = [Shape::Principal(a), Shape::Time(self.clock)];
         let key = Shape::SessionKey(ticket.session_key);
         let authenticator = self.encrypted_list(&authenticator, key);
-        self.send(vec![authenticator])?;
+        let sent = match x {
+            Some(x) => self.terms.pair(x, authenticator),
+            None => authenticator,
+        };
+        self.send(vec![sent])?;
         self.hold(run, Stage::AfterStep4, ticket, self.clock);
         Ok(Some(run))
     }
@@ -250,18 +268,38 @@ fn read_request(message: &Message) -> Option<Request> {
     (a != b && a != 0 && b != 0).then_some(Request { a, b, nonce })
 }
 
-/// {K, b, Ts, own nonce} under a's key.
-fn read_initiator_part(message: &Message, a: u8, b: u8, run: usize) -> Option<Ticket> {
+/// Step 4's m: the initiator's part with the run's own nonce, and X if the rule
+/// set has one.
+fn read_reply(
+    rules: Rules,
+    message: &Message,
+    a: u8,
+    b: u8,
+    run: usize,
+) -> Option<(Ticket, Option<Message>)> {
+    let (part, beside) = match rules {
+        Rules::Beside => message.pair().map(|(part, x)| (part, Some(x)))?,
+        _ => (message, None),
+    };
+    let (ticket, last) = read_initiator_part(part, a, b)?;
+    let (nonce, within) = match rules {
+        Rules::Within => last.pair().map(|(nonce, x)| (nonce, Some(x)))?,
+        _ => (last, None),
+    };
+    holds(usize::from(nonce.nonce()?) == run)?;
+    Some((ticket, beside.or(within).cloned()))
+}
+
+/// {K, b, Ts, last} under a's key, with what stands last.
+fn read_initiator_part(message: &Message, a: u8, b: u8) -> Option<(Ticket, &Message)> {
     let (body, key) = message.encrypted()?;
     holds(key.long_term_key()? == a)?;
     let (session_key, rest) = body.pair()?;
     let session_key = session_key.session_key()?;
     let (peer, rest) = rest.pair()?;
     holds(peer.principal()? == b)?;
-    let (time, nonce) = rest.pair()?;
-    let time = time.time()?;
-    holds(usize::from(nonce.nonce()?) == run)?;
-    Some(Ticket { session_key, time })
+    let (time, last) = rest.pair()?;
+    Some((Ticket { session_key, time: time.time()? }, last))
 }
 
 /// The pair of {K, a, Ts} under b's key and {a, Ta}K, with the same K.

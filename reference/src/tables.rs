@@ -119,6 +119,7 @@ impl Tables {
                 && self.counts.runs <= MAX_RUNS
                 && self.counts.entries <= MAX_ENTRIES,
         )?;
+        self.settings.rule_set()?;
         let mut realm = Realm::new(self.settings);
         realm.clock = self.clock;
         self.read_terms(&mut realm)?;

@@ -175,8 +175,13 @@ impl Tables {
     fn derives(&mut self, shape: Shape) -> bool {
         let message = self.terms.make(shape);
         assert!(self.terms.number(&message).is_some());
-        let settings =
-            Settings { principals: 3, flags: 0b010, ticket_life: 1, authenticator_life: 1 };
+        let settings = Settings {
+            principals: 3,
+            rules: 0,
+            flags: 0b010,
+            ticket_life: 1,
+            authenticator_life: 1,
+        };
         derivable(&settings, &self.terms, &self.wire).contains(&message)
     }
 }

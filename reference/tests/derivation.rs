@@ -73,7 +73,8 @@ fn put_together(
 
 fn random_tables(numbers: &mut Numbers) -> (Settings, Terms, HashSet<Message>) {
     let flags = (numbers.below(8) * numbers.below(2) * 2) as u32;
-    let settings = Settings { principals: 4, flags, ticket_life: 1, authenticator_life: 1 };
+    let settings =
+        Settings { principals: 4, rules: 0, flags, ticket_life: 1, authenticator_life: 1 };
     let mut terms = Terms::default();
     for _ in 0..4 + numbers.below(80) {
         let count = terms.count();

@@ -35,7 +35,7 @@ fn a_header_cut_short_with_bad_values_gives_1() {
 
 #[test]
 fn another_first_mark_is_refused() {
-    for mark in ["H5", "H4", "HN", "HO", "RG", "TM", "ST", "hd", "hw", "DH", "WH", "\0\0"] {
+    for mark in ["h5", "4H", "HN", "HO", "RG", "TM", "ST", "hd", "hw", "DH", "WH", "\0\0"] {
         for header in [HEADER, "HW n=32 Ls=1 La=1", "HD n=2"] {
             let mut file = record(header);
             file[..2].copy_from_slice(mark.as_bytes());

@@ -148,8 +148,9 @@ fn the_steps_do_what_the_two_calls_do() {
 
 #[test]
 fn each_thing_spoilt_alone_gives_10() {
-    let spoil: [fn(&mut Tables); 14] = [
+    let spoil: [fn(&mut Tables); 15] = [
         |t| t.settings.flags = 1,
+        |t| t.settings.rules = 3,
         |t| t.terms.push(0),
         |t| t.runs.truncate(447),
         |t| t.wire.clear(),

@@ -14,6 +14,8 @@ use reference::writing::{file_bytes, rewrite, words, write};
 
 const HD: u16 = mark(b"HD");
 const HW: u16 = mark(b"HW");
+/// The marks with the layout and the limits of HW.
+const WIDE: [&str; 3] = ["HW", "H5", "H4"];
 const HEADER: Header =
     Header { mark: HW, principals: 32, flags: 0, ticket_life: 100, authenticator_life: 10 };
 
@@ -30,28 +32,37 @@ fn first_line(header: &str) -> String {
 
 #[test]
 fn the_table_has_the_marks_of_the_paper() {
-    let rows = FORMATS.map(|f| (f.letters(), f.header_bytes(), f.most_principals));
-    assert_eq!(rows, [("HD".into(), 13, 16), ("HW".into(), 15, 32)]);
+    let rows =
+        FORMATS.map(|f| (f.letters(), f.header_bytes(), f.most_principals, f.rules.number()));
+    let expected = [("HD", 13, 16, 0), ("HW", 15, 32, 0), ("H5", 15, 32, 1), ("H4", 15, 32, 2)];
+    let row = |(letters, bytes, most, rules): (&str, _, _, _)| (letters.into(), bytes, most, rules);
+    assert_eq!(rows, expected.map(row));
+    assert_eq!(FORMATS.map(|format| format.mark), [0x4844, 0x4857, 0x4835, 0x4834]);
     assert_eq!(format_of(HW).map(|format| format.flag_bytes), Some(4));
-    assert_eq!([mark(b"HX"), mark(b"WH"), 0].map(format_of), [None; 3]);
+    assert_eq!([mark(b"HX"), mark(b"WH"), mark(b"H6"), 0].map(format_of), [None; 4]);
 }
 
 #[test]
 fn a_wide_header_has_its_flags_in_four_bytes() {
-    let header = b"HW\x20\x81\x02\x03\x04\x05\x06\x07\x08\x09\x0a\x0b\x0c";
-    let (read, rest) = read_header(header).unwrap();
     let (ticket_life, authenticator_life) = (0x0506_0708, 0x090a_0b0c);
     let expected = Header { flags: 0x8102_0304, ticket_life, authenticator_life, ..HEADER };
-    assert_eq!((read, rest.len()), (expected, 0));
-    assert_eq!(listing(header), "0 HW ok\nend runs 0 wire 0 cache 0 clock 0\n");
-    let mut buffer = [7; 17];
-    assert_eq!(write(&expected, &[], &mut buffer, 1), Ok(15));
-    assert_eq!((&buffer[1..16], buffer[0], buffer[16]), (&header[..], 7, 7));
+    for letters in WIDE {
+        let mut header = *b"HW\x20\x81\x02\x03\x04\x05\x06\x07\x08\x09\x0a\x0b\x0c";
+        header[..2].copy_from_slice(letters.as_bytes());
+        let expected = Header { mark: mark(header.first_chunk().unwrap()), ..expected };
+        let (read, rest) = read_header(&header).unwrap();
+        assert_eq!((read, rest.len()), (expected, 0));
+        let lines = format!("0 {letters} ok\nend runs 0 wire 0 cache 0 clock 0\n");
+        assert_eq!(listing(&header), lines);
+        let mut buffer = [7; 17];
+        assert_eq!(write(&expected, &[], &mut buffer, 1), Ok(15));
+        assert_eq!((&buffer[1..16], buffer[0], buffer[16]), (&header[..], 7, 7));
+    }
 }
 
 #[test]
 fn each_mark_has_its_own_limit_of_n() {
-    for (letters, most) in [("HD", 16), ("HW", 32)] {
+    for (letters, most) in [("HD", 16), ("HW", 32), ("H5", 32), ("H4", 32)] {
         for n in 0..=255 {
             let expected = match n {
                 3.. if n <= most => format!("0 {letters} ok"),
@@ -86,9 +97,12 @@ fn flags_are_below_n_and_not_on_the_server() {
 
 #[test]
 fn a_wide_header_cut_short_gives_1() {
-    for header in ["HW n=17 Ls=1 La=1", "HW n=2"] {
-        for length in 1..15 {
-            assert_eq!(listing(&record(header)[..length]), "0 file refused 1\n", "{length}");
+    for letters in WIDE {
+        for values in ["n=17 Ls=1 La=1", "n=2"] {
+            let header = record(&format!("{letters} {values}"));
+            for length in 1..15 {
+                assert_eq!(listing(&header[..length]), "0 file refused 1\n", "{length}");
+            }
         }
     }
 }
@@ -114,11 +128,13 @@ fn a_mark_flipped_is_read_by_its_own_layout() {
 }
 
 #[test]
-fn a_second_header_of_either_mark_gives_3() {
-    for first in ["HD n=3 Ls=1 La=1", "HW n=3 Ls=1 La=1"] {
-        for second in ["HD n=3 Ls=1 La=1", "HW n=3 Ls=1 La=1", "HW n=2"] {
-            let file = [record(first), record("ST 7 t=1"), record(second)].concat();
-            let expected = format!("0 {} ok\n1 ST ok - +0\n2 file refused 3\n", &first[..2]);
+fn a_second_header_of_any_mark_gives_3() {
+    let header = |letters: &String| record(&format!("{letters} n=3 Ls=1 La=1"));
+    let letters = FORMATS.map(|format| format.letters());
+    for first in &letters {
+        for second in letters.iter().map(header).chain([record("HW n=2")]) {
+            let file = [header(first), record("ST 7 t=1"), second].concat();
+            let expected = format!("0 {first} ok\n1 ST ok - +0\n2 file refused 3\n");
             assert_eq!(listing(&file), expected + "end runs 0 wire 0 cache 0 clock 1\n");
         }
     }
@@ -194,16 +210,19 @@ fn refusal(header: Header, words: &[u32]) -> u8 {
 
 #[test]
 fn a_writer_has_the_limits_of_the_mark() {
-    for (mark, most) in [(HD, 16), (HW, 32)] {
+    for (mark, most) in [(HD, 16), (HW, 32), (mark(b"H5"), 32), (mark(b"H4"), 32)] {
         for principals in [2, 3, 15, 16, 17, 31, 32, 33, 255] {
             let expected = if (3..=most).contains(&principals) { 0 } else { 2 };
             let header = Header { mark, principals, ..HEADER };
             assert_eq!(refusal(header, &[]), expected, "{header:?}");
         }
-    }
-    for (principals, flag, expected) in [(32, 31, 0), (32, 0, 2), (31, 31, 2), (31, 30, 0)] {
-        let header = Header { principals, flags: 1 << flag, ..HEADER };
-        assert_eq!(refusal(header, &[]), expected, "{header:?}");
+        if mark == HD {
+            continue;
+        }
+        for (principals, flag, expected) in [(32, 31, 0), (32, 0, 2), (31, 31, 2), (31, 30, 0)] {
+            let header = Header { mark, principals, flags: 1 << flag, ..HEADER };
+            assert_eq!(refusal(header, &[]), expected, "{header:?}");
+        }
     }
 }
 
@@ -222,7 +241,8 @@ fn flags_that_do_not_fit_into_two_bytes_give_2() {
 /// header counts no bytes.
 #[test]
 fn a_writer_refuses_another_mark_with_1() {
-    for mark in [0, HD - 1, HD + 1, HW - 1, HW + 1, 0x4448, 0x544d, 0x5354, u16::MAX] {
+    let beside = [HD - 1, HD + 1, HW - 1, HW + 1, mark(b"H3"), mark(b"H6")];
+    for mark in [&beside[..], &[0, 0x4448, 0x544d, 0x5354, u16::MAX]].concat() {
         let header = Header { mark, ..HEADER };
         assert_eq!(file_bytes(&header, &[]), 0);
         assert_eq!(file_bytes(&header, &[0x5354, 7, 0, 0, 0, 0, 0]), 12);
@@ -252,14 +272,17 @@ fn the_longest_file_counts_the_header_of_its_mark() {
 
 #[test]
 fn wide_files_are_written_as_they_were() {
-    let file = walk("HW n=32 flags=0x80000002 Ls=9 La=9\nST 2 a=31 b=30\nTM 3 L=31");
-    assert_eq!(rewrite(&file), Ok(file.clone()));
-    let (header, rest) = read_header(&file).unwrap();
-    assert_eq!(rest.len(), 19);
-    let (records, _) = reference::file::read_records(rest);
-    let mut buffer = vec![7; file.len()];
-    assert_eq!(write(&header, &words(&records), &mut buffer, 0), Ok(file.len()));
-    assert_eq!(buffer, file);
+    for letters in WIDE {
+        let records = "ST 2 a=31 b=30\nTM 3 L=31";
+        let file = walk(&format!("{letters} n=32 flags=0x80000002 Ls=9 La=9\n{records}"));
+        assert_eq!(rewrite(&file), Ok(file.clone()));
+        let (header, rest) = read_header(&file).unwrap();
+        assert_eq!(rest.len(), 19);
+        let (records, _) = reference::file::read_records(rest);
+        let mut buffer = vec![7; file.len()];
+        assert_eq!(write(&header, &words(&records), &mut buffer, 0), Ok(file.len()));
+        assert_eq!(buffer, file);
+    }
 }
 
 /// Tables handed in: n to 32 in every realm, since it keeps no mark.

@@ -1,9 +1,9 @@
-//! The cases of `call_cases`: document 01's cases F and A to D as walks, every
-//! refusal of a call, 10 in each of its causes, times from the future at the exact
-//! ticks, every table filled to its last place, terms that are known before, the
-//! two calls on the replay cache alone, and purges that forget some entries of a
-//! list, in patterns. Places past the counts hold what is no term, run or entry, or
-//! an entry that must not be read.
+//! The cases of `call_cases`: document 01's cases F and A to D as walks, the rule
+//! sets, every refusal of a call, 10 in each of its causes, times from the future at
+//! the exact ticks, every table filled to its last place, terms that are known
+//! before, the two calls on the replay cache alone, and purges that forget some
+//! entries of a list, in patterns. Places past the counts hold what is no term, run
+//! or entry, or an entry that must not be read.
 
 mod ahead;
 mod broken;
@@ -11,6 +11,7 @@ mod full;
 mod known;
 mod patterns;
 mod refused;
+mod rules;
 mod thin;
 mod walks;
 
@@ -194,12 +195,18 @@ fn lines_between(now: &World, wanted: &World) -> Vec<Line> {
     let (old, new) = (&now.tables, &wanted.tables);
     let mut lines = Vec::new();
     let mut set = |letter: char, numbers: &[u32]| lines.push(Line::new(letter, numbers));
-    let (settings, counts, lent) = (new.settings, new.counts, wanted.lent);
-    if (old.settings, old.clock, now.lent.cache) != (settings, new.clock, lent.cache) {
-        let Settings { principals, flags, ticket_life, authenticator_life } = settings;
-        let lives = [ticket_life, authenticator_life];
-        let places = lent.cache as u32;
-        set('H', &[principals.into(), flags, lives[0], lives[1], new.clock, places]);
+    let (counts, lent) = (new.counts, wanted.lent);
+    let header = |world: &World| {
+        let Settings { principals, flags, ticket_life, authenticator_life, .. } =
+            world.tables.settings;
+        let (clock, places) = (world.tables.clock, world.lent.cache as u32);
+        [principals.into(), flags, ticket_life, authenticator_life, clock, places]
+    };
+    if header(now) != header(wanted) {
+        set('H', &header(wanted));
+    }
+    if old.settings.rules != new.settings.rules {
+        set('G', &[new.settings.rules.into()]);
     }
     let others = |lent: Lent| (lent.terms, lent.runs, lent.wire);
     if (old.counts, others(now.lent)) != (counts, others(lent)) {
@@ -252,6 +259,11 @@ pub fn script() -> Script<World> {
     walks::lettered(&mut script);
     walks::long_lives(&mut script);
     walks::leaked_key(&mut script);
+    rules::exchanges(&mut script);
+    rules::another_x(&mut script);
+    rules::openings(&mut script);
+    rules::named(&mut script);
+    rules::not_named(&mut script);
     refused::principals(&mut script);
     broken::openings(&mut script);
     broken::headers(&mut script);
@@ -274,6 +286,7 @@ pub fn script() -> Script<World> {
     known::requests(&mut script);
     known::replies(&mut script);
     known::authenticators(&mut script);
+    known::carried_tickets(&mut script);
     known::full_table(&mut script);
     thin::lives(&mut script);
     thin::sixteen(&mut script);

@@ -3,6 +3,7 @@
 //! - N: everything as it was at first
 //! - H: n, flags, Ls, La and the clock of the realm; how many places of the cache
 //!   are lent
+//! - G: the number of the realm's rule set
 //! - C: how many terms, runs and entries there are; how many places of the term
 //!   table, words of the table of runs and words of the wire are lent
 //! - T: a place of the term table; kind, L and R
@@ -56,10 +57,9 @@ pub struct World {
 
 impl Default for World {
     fn default() -> World {
-        let settings = Settings { principals: 0, flags: 0, ticket_life: 0, authenticator_life: 0 };
         World {
             tables: Tables {
-                settings,
+                settings: settings(0, [0; 4]),
                 clock: 0,
                 counts: Counts::default(),
                 terms: vec![NO_TERM; TERM_PLACES + 1],
@@ -117,10 +117,11 @@ impl World {
         match letter {
             'N' => *self = World::default(),
             'H' => {
-                tables.settings = settings([a, b, c, d]);
+                tables.settings = settings(tables.settings.rules, [a, b, c, d]);
                 tables.clock = e;
                 self.lent.cache = f as usize;
             }
+            'G' => tables.settings.rules = a as u8,
             'C' => {
                 tables.counts = Counts { terms: x, runs: y, entries: z };
                 let (terms, runs, wire) = (d as usize, e as usize, f as usize);
@@ -135,8 +136,8 @@ impl World {
     }
 }
 
-fn settings([n, flags, ticket_life, authenticator_life]: [u32; 4]) -> Settings {
-    Settings { principals: n as u8, flags, ticket_life, authenticator_life }
+fn settings(rules: u8, [n, flags, ticket_life, authenticator_life]: [u32; 4]) -> Settings {
+    Settings { principals: n as u8, rules, flags, ticket_life, authenticator_life }
 }
 
 fn header([mark, n, flags, ticket_life, authenticator_life, _]: [u32; 6]) -> Header {
@@ -222,11 +223,12 @@ pub fn word_changes(name: &str, before: &[u64], after: &[u64], output: &mut Stri
     }
 }
 
-/// n, flags, Ls, La, the clock and the three counts.
-fn fields(tables: &Tables) -> [u64; 8] {
+/// n, the rule set, flags, Ls, La, the clock and the three counts.
+fn fields(tables: &Tables) -> [u64; 9] {
     let Tables { settings, clock, counts, .. } = tables;
     [
         settings.principals.into(),
+        settings.rules.into(),
         settings.flags.into(),
         settings.ticket_life.into(),
         settings.authenticator_life.into(),

@@ -42,7 +42,13 @@ impl Questions {
     /// Step 10 asks the same of a realm without runs.
     fn answer(&self, term: u32) -> String {
         let mut tables = Tables {
-            settings: Settings { principals: 3, flags: 4, ticket_life: 1, authenticator_life: 1 },
+            settings: Settings {
+                principals: 3,
+                rules: 0,
+                flags: 4,
+                ticket_life: 1,
+                authenticator_life: 1,
+            },
             clock: 0,
             counts: Counts { terms: self.lent.count, ..Counts::default() },
             terms: self.terms[..self.lent.places].to_vec(),

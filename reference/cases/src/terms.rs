@@ -55,7 +55,13 @@ impl Table {
     /// The places that are lent, as the term table of a realm without runs.
     fn lent(&self) -> Tables {
         Tables {
-            settings: Settings { principals: 3, flags: 0, ticket_life: 1, authenticator_life: 1 },
+            settings: Settings {
+                principals: 3,
+                rules: 0,
+                flags: 0,
+                ticket_life: 1,
+                authenticator_life: 1,
+            },
             clock: 0,
             counts: Counts { terms: self.count, ..Counts::default() },
             terms: self.terms[..self.places].to_vec(),

@@ -54,7 +54,9 @@ fn every_refusal_is_met() {
 #[test]
 fn every_number_of_terms_is_added() {
     let output = stored("call_cases", "stdout");
-    for (step, most) in [(1, 5), (3, 11), (4, 3), (5, 1)] {
+    let under = |mark: &str| [(format!("3 under {mark}"), 12), (format!("4 under {mark}"), 4)];
+    let apart = [(1, 5), (3, 11), (4, 3), (5, 1)].map(|(step, most)| (step.to_string(), most));
+    for (step, most) in [&apart[..], &under("H5"), &under("H4")].concat() {
         for present in 0..=most {
             let text = format!("step {step}, {present} of its terms present: ok ");
             let answer = output.lines().find_map(|line| line.strip_prefix(&text)).unwrap();

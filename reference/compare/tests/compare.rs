@@ -5,6 +5,8 @@ use std::process::Command;
 
 use compare::{first_difference, Difference, Engine, Outcome};
 
+type Listing = fn(&[u8]) -> Vec<u8>;
+
 fn same(file: &[u8]) -> Vec<u8> {
     reference::listing(file).into_bytes()
 }
@@ -37,6 +39,31 @@ fn adding_up(file: &[u8]) -> Vec<u8> {
     reference::listing(file).lines().map(line).collect::<String>().into_bytes()
 }
 
+/// Has the rules of the first mark under the second.
+fn taken_for(file: &[u8], first: &str, second: &str) -> Vec<u8> {
+    if !file.starts_with(second.as_bytes()) {
+        return same(file);
+    }
+    let other = [first.as_bytes(), &file[2..]].concat();
+    reference::listing(&other).replacen(first, second, 1).into_bytes()
+}
+
+fn old_rules_under_h5(file: &[u8]) -> Vec<u8> {
+    taken_for(file, "HW", "H5")
+}
+
+fn old_rules_under_h4(file: &[u8]) -> Vec<u8> {
+    taken_for(file, "HW", "H4")
+}
+
+fn h4_under_h5(file: &[u8]) -> Vec<u8> {
+    taken_for(file, "H4", "H5")
+}
+
+fn h5_under_hw(file: &[u8]) -> Vec<u8> {
+    taken_for(file, "H5", "HW")
+}
+
 fn over(engine: Engine, files: u64) -> Outcome {
     let mut outcome = Outcome::default();
     for number in 0..files {
@@ -61,13 +88,20 @@ fn a_wrong_engine_is_found() {
 
 #[test]
 fn engines_that_miscount_terms_are_found() {
-    for (engine, line) in
-        [(all_new as fn(&[u8]) -> Vec<u8>, " old"), (silent, " +0"), (adding_up, " +")]
-    {
+    for (engine, line) in [(all_new as Listing, " old"), (silent, " +0"), (adding_up, " +")] {
         let outcome = over(Engine::Function(engine), 300);
         assert!(outcome.different > 10, "{}", outcome.different);
         let (_, difference) = outcome.first.unwrap();
         assert!(difference.contains(line), "{difference}");
+    }
+}
+
+#[test]
+fn engines_that_take_one_rule_set_for_another_are_found() {
+    let wrong: [Listing; 4] = [old_rules_under_h5, old_rules_under_h4, h4_under_h5, h5_under_hw];
+    for engine in wrong {
+        let outcome = over(Engine::Function(engine), 300);
+        assert!(outcome.different > 20, "{}", outcome.different);
     }
 }
 

@@ -3,6 +3,7 @@
 
 use reference::file::{Record, StepRecord};
 use reference::realm::{Role, Stage};
+use reference::rules::Rules;
 use reference::terms::{Message, Shape};
 
 use crate::forms::{self, Kind, Pattern};
@@ -51,56 +52,103 @@ pub fn any_term(walk: &mut Walk) -> Option<Message> {
     (count > 0).then(|| walk.realm.terms.present()[walk.random.below(count)].clone())
 }
 
-/// A message on the wire, or at step 5 a pair of two, that fits.
+/// A message on the wire that fits, or at step 5 a pair of two that came on it,
+/// alone or in a pair; at times, under H5, a part that came with another X. Under H4
+/// the ticket of such a pair may still be in the part.
 pub fn sent_for(walk: &mut Walk, step: u8, run: u8) -> Option<Message> {
-    let found = walk.realm.runs.get(usize::from(run)).copied();
-    let wire = walk.wire();
-    let mut fitting = Vec::new();
-    if step == 5 {
-        for ticket in &wire {
-            let Some(key) = forms::value(ticket, "BL", Kind::SessionKey) else { continue };
-            for authenticator in &wire {
-                if forms::value(authenticator, "K", Kind::SessionKey) == Some(key) {
-                    fitting.push(walk.realm.terms.pair(ticket.clone(), authenticator.clone()));
-                }
-            }
+    let mut fitting = match step {
+        4 if forms::rules(&walk.realm) == Rules::Beside && walk.random.one_in(4) => {
+            joined_with_x(walk)
         }
-    } else {
-        fitting = wire;
-    }
+        5 => joined_by_key(walk),
+        _ => walk.wire(),
+    };
     let fits = |message: &Message| {
         let key = forms::value(message, "LBL", Kind::SessionKey);
-        let form = forms::form(step, run.into(), found.as_ref(), key);
+        let form = forms::form(&walk.realm, step, run, key);
         form.is_some_and(|form| forms::fits(&form, message))
     };
     fitting.retain(fits);
     (!fitting.is_empty()).then(|| walk.random.pick(&fitting))
 }
 
+/// What may be a ticket, each with what is under its key.
+fn joined_by_key(walk: &mut Walk) -> Vec<Message> {
+    let sent = walk.sent();
+    let tickets = match forms::rules(&walk.realm) {
+        Rules::Within => walk.realm.terms.present().to_vec(),
+        _ => sent.clone(),
+    };
+    let mut pairs = Vec::new();
+    for ticket in &tickets {
+        let Some(key) = forms::value(ticket, "BL", Kind::SessionKey) else { continue };
+        for authenticator in &sent {
+            if forms::value(authenticator, "K", Kind::SessionKey) == Some(key) {
+                pairs.push(walk.realm.terms.pair(ticket.clone(), authenticator.clone()));
+            }
+        }
+    }
+    pairs
+}
+
+/// What came, each with some X.
+fn joined_with_x(walk: &mut Walk) -> Vec<Message> {
+    let x = some_x(walk);
+    let parts = walk.sent().into_iter();
+    parts.map(|part| walk.realm.terms.pair(part, x.clone())).collect()
+}
+
+/// A term in the place of a ticket: one that came, any that is present, a ticket of
+/// our making, or a principal.
+pub fn some_x(walk: &mut Walk) -> Message {
+    let sent = walk.sent();
+    match walk.random.below(8) {
+        0..=2 if !sent.is_empty() => walk.random.pick(&sent),
+        3 | 4 if !sent.is_empty() => any_term(walk).expect("what came is a term"),
+        5 | 6 => {
+            let (a, b) = walk.two_clients();
+            let (key, time) = (Shape::SessionKey(some_key(walk)), Shape::Time(some_time(walk)));
+            let body = walk.realm.terms.list(&[key, Shape::Principal(a), time]);
+            let key = walk.make(Shape::LongTermKey(b));
+            walk.realm.terms.encrypt(body, key)
+        }
+        _ => {
+            let principal = Shape::Principal(walk.client());
+            walk.make(principal)
+        }
+    }
+}
+
 /// A message of the step's form with values of our choice; with one part put
 /// wrong if asked for.
 pub fn filled_for(walk: &mut Walk, step: u8, run: u8, wrong: bool) -> Option<Message> {
-    let found = walk.realm.runs.get(usize::from(run)).copied();
     let key = u32::from(some_key(walk));
-    let form = forms::form(step, run.into(), found.as_ref(), Some(key))?;
-    let mut parts_until_wrong = if wrong { Some(walk.random.below(size(&form))) } else { None };
-    Some(fill(walk, &form, &mut parts_until_wrong))
+    let form = forms::form(&walk.realm, step, run, Some(key))?;
+    Some(filled(walk, &form, wrong))
+}
+
+/// A message of this form, or with one part put wrong.
+pub fn filled(walk: &mut Walk, form: &Pattern, wrong: bool) -> Message {
+    let mut parts_until_wrong = if wrong { Some(walk.random.below(size(form))) } else { None };
+    fill(walk, form, &mut parts_until_wrong)
 }
 
 fn size(pattern: &Pattern) -> usize {
     match pattern {
-        Pattern::Atom(..) => 1,
+        Pattern::Any | Pattern::Atom(..) => 1,
         Pattern::Pair(first, second) | Pattern::Lock(first, second) => {
             1 + size(first) + size(second)
         }
     }
 }
 
-/// Counts the parts down; the one at 0 becomes something else.
+/// Counts the parts down; the one at 0 becomes something else, but for X, which may
+/// be anything.
 fn fill(walk: &mut Walk, pattern: &Pattern, until_wrong: &mut Option<usize>) -> Message {
     let wrong = *until_wrong == Some(0);
     *until_wrong = until_wrong.and_then(|left| left.checked_sub(1));
     match pattern {
+        Pattern::Any => some_x(walk),
         Pattern::Atom(kind, value) => {
             let value = value.unwrap_or_else(|| some_value(walk, *kind));
             let (kind, value) = if wrong { other_atom(walk, *kind, value) } else { (*kind, value) };

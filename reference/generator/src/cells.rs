@@ -2,6 +2,7 @@
 //! possible.
 
 use reference::marks::FORMATS;
+use reference::rules::Rules;
 
 /// The refusals that a step can give, from the input table and the column
 /// "steps" of the state table, in their order.
@@ -33,14 +34,16 @@ pub fn refusals_of_step(step: u8) -> &'static [u8] {
 ///
 /// - 1: a, b, the nonce and two pairs.
 /// - 3: K, Ts, three pairs, a's key and the part for a; two pairs, b's key and the
-///   ticket.
-/// - 4: Ta, its pair with a, and the authenticator.
+///   ticket. Under H5 the pair of the two too, under H4 that of N and the ticket.
+/// - 4: Ta, its pair with a, and the authenticator. Under H5 and H4 the pair of X and
+///   that too.
 /// - 5: the confirmation.
-pub fn most_added(step: u8) -> usize {
+pub fn most_added(step: u8, rules: Rules) -> usize {
+    let carried = usize::from(rules != Rules::Apart);
     match step {
         1 => 5,
-        3 => 11,
-        4 => 3,
+        3 => 11 + carried,
+        4 => 3 + carried,
         5 => 1,
         _ => 0,
     }

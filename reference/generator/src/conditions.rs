@@ -8,6 +8,7 @@ use reference::file::{Record, StepRecord, TermRecord};
 use reference::realm::{Entry, Realm, Role, Run, Stage, MAX_ENTRIES, MAX_RUNS};
 use reference::terms::{Message, MAX_TERMS};
 
+use crate::carried_cells::under;
 use crate::forms::{self, Kind, Sends};
 
 /// What is so before the record is taken.
@@ -28,6 +29,8 @@ pub struct Facts {
     /// How many terms the record would add.
     pub new_terms: Option<usize>,
     pub free_terms: usize,
+    /// What the record would put on the wire.
+    pub sends: Vec<Message>,
 }
 
 #[derive(Clone, Copy, Default)]
@@ -38,6 +41,8 @@ pub struct Read {
     pub key: u8,
     pub ts: Option<u32>,
     pub ta: Option<u32>,
+    /// The number of X, which is a term as m is.
+    pub x: Option<u16>,
 }
 
 impl Facts {
@@ -223,11 +228,11 @@ fn message_facts(realm: &Realm, record: &StepRecord, message: &Message, facts: &
         return;
     }
     let key = forms::value(message, "LBL", Kind::SessionKey);
-    let run = facts.run;
-    let Some(form) = forms::form(step, record.run.into(), run.as_ref(), key) else { return };
+    let (run, rules) = (facts.run, forms::rules(realm));
+    let Some(form) = forms::form(realm, step, record.run, key) else { return };
     let mut misfits = forms::misfits(&form, message, "");
-    let at = |place, kind| forms::value(message, place, kind);
-    let small = |place, kind| at(place, kind).unwrap_or(0) as u8;
+    let at = |place: &str, kind| forms::value(message, place, kind);
+    let small = |place: &str, kind| at(place, kind).unwrap_or(0) as u8;
     let mut read = Read::default();
     match step {
         3 => {
@@ -243,7 +248,13 @@ fn message_facts(realm: &Realm, record: &StepRecord, message: &Message, facts: &
                     .extend(barred.iter().filter(|(_, is)| *is).map(|(name, _)| name.to_string()));
             }
         }
-        4 => (read.key, read.ts) = (small("BL", Kind::SessionKey), at("BRRL", Kind::Time)),
+        4 => {
+            let (part, x) = forms::places(rules);
+            read.key = small(&format!("{part}BL"), Kind::SessionKey);
+            read.ts = at(&format!("{part}BRRL"), Kind::Time);
+            let x = x.and_then(|place| forms::part(message, place));
+            read.x = x.and_then(|x| realm.terms.number(x));
+        }
         5 => {
             (read.key, read.ts) = (small("LBL", Kind::SessionKey), at("LBRR", Kind::Time));
             read.ta = at("RBR", Kind::Time);
@@ -261,8 +272,9 @@ fn message_facts(realm: &Realm, record: &StepRecord, message: &Message, facts: &
     if misfits.is_empty() || step == 6 {
         facts.read = Some(read);
     }
+    let set = if step == 4 { under(rules) } else { String::new() };
     for misfit in misfits {
-        facts.refuse(14, &misfit);
+        facts.refuse(14, &format!("{set}{misfit}"));
     }
 }
 
@@ -292,16 +304,17 @@ fn expiry_facts(realm: &Realm, step: u8, read: Read, facts: &mut Facts) {
 
 /// 20.
 fn room_facts(realm: &mut Realm, step: u8, read: Read, facts: &mut Facts) {
-    let messages = sends(realm, step, read);
-    let new_terms = parts_not_present(realm, messages);
+    facts.sends = sends(realm, step, read);
+    let new_terms = parts_not_present(realm, facts.sends.clone());
     facts.new_terms = Some(new_terms);
     facts.refuse_if(new_terms > facts.free_terms, 20, "");
 }
 
 /// What the step would send.
 pub fn sends(realm: &mut Realm, step: u8, read: Read) -> Vec<Message> {
-    let Read { a, b, nonce, key, ta, .. } = read;
-    Sends { a, b, nonce, key, ta: ta.unwrap_or(0) }.messages(realm, step)
+    let Read { a, b, nonce, key, ta, x, .. } = read;
+    let x = x.and_then(|number| realm.terms.at(number).cloned());
+    Sends { a, b, nonce, key, ta: ta.unwrap_or(0), x }.messages(realm, step)
 }
 
 /// How many parts of the messages are no terms yet, each counted once.

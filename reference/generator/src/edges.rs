@@ -1,9 +1,10 @@
 //! The second part of the coverage table: in which way a cell was met.
 
 use reference::marks::FORMATS;
+use reference::rules::Rules;
 
 use crate::cells::{most_added, refusals_of_kind};
-use crate::{ahead_cells, asked_cells, forms, header_cells, purge_cells};
+use crate::{ahead_cells, asked_cells, carried_cells, forms, header_cells, purge_cells};
 
 /// Cells that say in which way a cell above was met: each condition of a
 /// refusal while no other condition of it holds, the limits hit exactly, and
@@ -20,15 +21,17 @@ pub fn edge_cells() -> Vec<String> {
     cells.extend(purge_cells::edges());
     cells.extend(ahead_cells::edges());
     cells.extend(asked_cells::edges());
+    cells.extend(carried_cells::edges());
     cells.extend(OTHER_EDGES.iter().map(|cell| cell.to_string()));
     cells
 }
 
-/// Only files of more than 65,000 bytes meet these.
+/// Only files of more than 65,000 bytes meet these: one mark of each layout.
 pub fn long_cells() -> Vec<String> {
     let refused =
         ["over 65,536 bytes", "over 65,536 bytes, bad header too", "65,537 bytes of whole records"];
-    let accepted = FORMATS.iter().map(|format| format!("{} / ok / 65,536 bytes", format.letters()));
+    let layouts = FORMATS.iter().filter(|format| format.rules == Rules::Apart);
+    let accepted = layouts.map(|format| format!("{} / ok / 65,536 bytes", format.letters()));
     accepted.chain(refused.map(|how| format!("file / refused 1 / {how}"))).collect()
 }
 
@@ -101,7 +104,7 @@ fn term_edges() -> Vec<String> {
 fn added_edges() -> Vec<String> {
     let mut cells = Vec::new();
     for step in [1, 3, 4, 5] {
-        let most = most_added(step);
+        let most = most_added(step, Rules::Apart);
         cells.extend((0..=most).map(|added| format!("step {step} / ok / adds {added}")));
         if most > 1 {
             cells.push(format!("step {step} / ok / last place, some present"));
@@ -159,7 +162,7 @@ fn stage_and_form_edges() -> Vec<String> {
     }
     let forms = [
         (3, forms::request()),
-        (4, forms::initiator_part(1, 2, 0)),
+        (4, forms::reply(Rules::Apart, 1, 2, 0)),
         (5, forms::delivery(1, 2, Some(0))),
         (6, forms::answer(0, 0)),
     ];

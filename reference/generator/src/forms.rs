@@ -4,7 +4,8 @@
 //! written as data. So they can be filled in, filled in with one part wrong, and
 //! asked which parts of a message do not fit.
 
-use reference::realm::{Realm, Run};
+use reference::realm::Realm;
+use reference::rules::Rules;
 use reference::terms::{Message, Shape};
 
 #[derive(Clone, Copy, Debug, PartialEq, Eq)]
@@ -19,13 +20,15 @@ pub enum Kind {
 /// An atom has a kind and, if the step fixes it, a value.
 #[derive(Clone, Debug)]
 pub enum Pattern {
+    /// Any term: document 02's X.
+    Any,
     Atom(Kind, Option<u32>),
     Pair(Box<Pattern>, Box<Pattern>),
     Lock(Box<Pattern>, Box<Pattern>),
 }
 
 use Kind::*;
-use Pattern::Atom;
+use Pattern::{Any, Atom};
 
 fn list(parts: &[Pattern]) -> Pattern {
     let (first, rest) = parts.split_first().expect("a list is not empty");
@@ -48,16 +51,42 @@ pub fn request() -> Pattern {
     list(&[Atom(Principal, None), Atom(Principal, None), Atom(Nonce, None)])
 }
 
-pub fn initiator_part(a: u8, b: u8, own_nonce: u8) -> Pattern {
-    let body =
-        [Atom(SessionKey, None), fixed(Principal, b), Atom(Time, None), fixed(Nonce, own_nonce)];
-    lock(list(&body), fixed(LongTermKey, a))
+/// Step 4: the initiator's part, the pair of it and X, or the part with X in its
+/// last place.
+pub fn reply(rules: Rules, a: u8, b: u8, own_nonce: u8) -> Pattern {
+    let mut body = vec![
+        Atom(SessionKey, None),
+        fixed(Principal, b),
+        Atom(Time, None),
+        fixed(Nonce, own_nonce),
+    ];
+    if rules == Rules::Within {
+        body.push(Any);
+    }
+    let part = lock(list(&body), fixed(LongTermKey, a));
+    match rules {
+        Rules::Beside => list(&[part, Any]),
+        _ => part,
+    }
+}
+
+/// The places of the initiator's part and of X in the reply.
+pub fn places(rules: Rules) -> (&'static str, Option<&'static str>) {
+    match rules {
+        Rules::Apart => ("", None),
+        Rules::Beside => ("L", Some("R")),
+        Rules::Within => ("", Some("BRRRR")),
+    }
+}
+
+/// A ticket with these of K, a, Ts and b.
+pub fn ticket([key, a, ts, b]: [Option<u32>; 4]) -> Pattern {
+    lock(list(&[Atom(SessionKey, key), Atom(Principal, a), Atom(Time, ts)]), Atom(LongTermKey, b))
 }
 
 /// Step 5, with the K that the ticket holds if it is known.
 pub fn delivery(a: u8, b: u8, key: Option<u32>) -> Pattern {
-    let ticket = [Atom(SessionKey, key), fixed(Principal, a), Atom(Time, None)];
-    let ticket = lock(list(&ticket), fixed(LongTermKey, b));
+    let ticket = ticket([key, Some(a.into()), None, Some(b.into())]);
     let authenticator = list(&[fixed(Principal, a), Atom(Time, None)]);
     list(&[ticket, lock(authenticator, Atom(SessionKey, key))])
 }
@@ -68,17 +97,22 @@ pub fn answer(key: u8, ta: u32) -> Pattern {
 
 /// The form of m at steps 3 to 6 in this run; step 6 has none in a run that
 /// holds no K and Ta. Only the key of step 5 depends on m itself.
-pub fn form(step: u8, number: usize, run: Option<&Run>, key: Option<u32>) -> Option<Pattern> {
+pub fn form(realm: &Realm, step: u8, number: u8, key: Option<u32>) -> Option<Pattern> {
     if step == 3 {
         return Some(request());
     }
-    let run = run?;
+    let run = realm.runs.get(usize::from(number))?;
     match step {
-        4 => Some(initiator_part(run.a, run.b, number as u8)),
+        4 => Some(reply(rules(realm), run.a, run.b, number)),
         5 => Some(delivery(run.a, run.b, key)),
         6 => run.held.and_then(|h| Some(answer(h.session_key, h.authenticator_time?))),
         _ => None,
     }
+}
+
+/// The rule set of a realm.
+pub fn rules(realm: &Realm) -> Rules {
+    realm.settings.rule_set().expect("a realm of a file has a rule set")
 }
 
 pub fn atom(message: &Message) -> Option<(Kind, u32)> {
@@ -132,6 +166,7 @@ pub fn misfits(pattern: &Pattern, message: &Message, place: &str) -> Vec<String>
         found
     };
     match pattern {
+        Any => vec![],
         Atom(kind, fixed) => match (atom(message), fixed) {
             (Some((found, value)), Some(wanted)) if found == *kind && value != *wanted => {
                 vec![format!("m{place} another value")]
@@ -158,6 +193,7 @@ pub fn possible_misfits(pattern: &Pattern, place: &str) -> Vec<String> {
         all
     };
     match pattern {
+        Any => vec![],
         Atom(_, None) => vec![format!("m{place} another kind")],
         Atom(_, Some(_)) => {
             vec![format!("m{place} another kind"), format!("m{place} another value")]
@@ -174,10 +210,12 @@ pub struct Sends {
     pub nonce: u8,
     pub key: u8,
     pub ta: u32,
+    pub x: Option<Message>,
 }
 
 impl Sends {
     pub fn messages(&self, realm: &mut Realm, step: u8) -> Vec<Message> {
+        let rules = rules(realm);
         let clock = Shape::Time(realm.clock);
         let (a, b) = (Shape::Principal(self.a), Shape::Principal(self.b));
         let (key, nonce) = (Shape::SessionKey(self.key), Shape::Nonce(self.nonce));
@@ -190,11 +228,27 @@ impl Sends {
         };
         match step {
             1 => vec![realm.terms.list(&[a, b, next_nonce])],
-            3 => vec![
-                locked(&[next_key.clone(), b, clock.clone(), nonce], Shape::LongTermKey(self.a)),
-                locked(&[next_key, a, clock], Shape::LongTermKey(self.b)),
-            ],
-            4 => vec![locked(&[a, clock], key)],
+            3 => {
+                let mut part = vec![next_key.clone(), b, clock.clone(), nonce];
+                let ticket = locked(&[next_key, a, clock], Shape::LongTermKey(self.b));
+                if rules == Rules::Within {
+                    part.push(ticket.shape().clone());
+                }
+                let part = locked(&part, Shape::LongTermKey(self.a));
+                match rules {
+                    Rules::Apart => vec![part, ticket],
+                    Rules::Beside => vec![terms.pair(part, ticket)],
+                    Rules::Within => vec![part],
+                }
+            }
+            4 => {
+                let authenticator = locked(&[a, clock], key);
+                let carried = self.x.clone();
+                vec![match carried {
+                    Some(x) => terms.pair(x, authenticator),
+                    None => authenticator,
+                }]
+            }
             5 => vec![locked(&[Shape::Time(self.ta)], key)],
             _ => vec![],
         }

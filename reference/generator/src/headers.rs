@@ -61,7 +61,13 @@ pub fn spoilt_header(random: &mut Random) -> Header {
             3 => header.flags |= 1,
             4..=5 => header.flags |= at_n as u32,
             6 => header.flags |= (at_n << 1) as u32,
-            7..=9 => header.flags |= random.pick(&[1 << 15, 1 << 16, 1 << 31]),
+            7..=9 => {
+                let flag = random.pick(&[15, 16, 31]);
+                let n = random.pick(&[flag, flag - 1, header.principals]);
+                header.principals = n.min(format.most_principals);
+                header.flags &= ((1u64 << header.principals) - 1) as u32;
+                header.flags |= 1 << flag;
+            }
             10 => header.ticket_life = 0,
             _ => header.authenticator_life = 0,
         }

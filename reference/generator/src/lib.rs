@@ -8,6 +8,8 @@ pub mod actions;
 pub mod ahead;
 pub mod ahead_cells;
 pub mod asked_cells;
+pub mod carried;
+pub mod carried_cells;
 pub mod cells;
 pub mod conditions;
 pub mod coverage;

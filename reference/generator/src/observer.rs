@@ -11,6 +11,7 @@ use reference::terms::{Message, MAX_TERMS};
 
 use crate::ahead_cells;
 use crate::asked_cells::Questions;
+use crate::carried_cells::{self, came, under};
 use crate::cells::most_added;
 use crate::conditions::{facts, Facts};
 use crate::forms;
@@ -74,6 +75,8 @@ impl Observer {
         }
         let before = self.tables();
         let count = self.realm.terms.count();
+        let not_sent = |m: &&Message| !self.realm.wire.contains(*m);
+        let newly_sent: HashSet<&Message> = facts.sends.iter().filter(not_sent).collect();
         let answer = self.realm.apply(record);
         let first = facts.applies.first().copied();
         assert_eq!(answer.err().map(Refusal::number), first, "{record:?}");
@@ -82,6 +85,11 @@ impl Observer {
             let added = facts.new_terms.unwrap_or(0);
             assert_eq!(added_terms(answer), added, "{record:?}");
             assert_eq!(self.realm.terms.count(), count + added, "{record:?}");
+        }
+        if let (Record::Step(StepRecord { step: 1..=8 | 10, .. }), Ok(_)) = (record, answer) {
+            let wire = &self.realm.wire;
+            assert!(newly_sent.iter().all(|message| wire.contains(*message)), "{record:?}");
+            assert_eq!(wire.len(), before.2 + newly_sent.len(), "{record:?}");
         }
         if let (Record::Step(StepRecord { step: 8, b, .. }), Ok(_)) = (record, answer) {
             assert_eq!(self.realm.cache, left(&self.realm, &before.4, *b), "{record:?}");
@@ -191,14 +199,16 @@ impl Observer {
     fn added_cells(&mut self, step: u8, added: usize) {
         let count = self.realm.terms.count();
         self.added_by_steps.extend((count - added..count).map(|number| number as u16));
-        if most_added(step) == 0 {
+        let rules = forms::rules(&self.realm);
+        if most_added(step, rules) == 0 {
             return;
         }
         let full = count == MAX_TERMS;
-        self.met(&format!("step {step} / ok / adds {added}"));
+        let set = if [3, 4].contains(&step) { under(rules) } else { String::new() };
+        self.met(&format!("step {step} / ok / {set}adds {added}"));
         self.met_if(full && added == 0, &format!("step {step} / ok / full table"));
         self.met_if(full && added > 0, &format!("step {step} / ok / last place"));
-        let in_part = 0 < added && added < most_added(step);
+        let in_part = 0 < added && added < most_added(step, rules);
         self.met_if(full && in_part, &format!("step {step} / ok / last place, some present"));
     }
 
@@ -221,6 +231,7 @@ impl Observer {
         let answer = facts.applies.first().copied();
         self.cells.extend(self.purges.cells(&self.realm, record, facts));
         self.cells.extend(self.questions.cells(&self.realm, record, facts));
+        self.cells.extend(carried_cells::cells(&self.realm, record, facts));
         match record.step {
             3..=6 | 10 => {
                 self.message_cells(record, facts, answer);
@@ -272,8 +283,10 @@ impl Observer {
         }
         if let (5, Some((ticket, authenticator))) = (step, message.pair()) {
             let wire = &self.realm.wire;
-            let (ticket, authenticator) = (wire.contains(ticket), wire.contains(authenticator));
-            self.met_if(ticket && authenticator, "step 5 / ok / both halves on the wire");
+            let both = wire.contains(ticket) && wire.contains(authenticator);
+            let (ticket, authenticator) =
+                (came(&self.realm, ticket), came(&self.realm, authenticator));
+            self.met_if(both, "step 5 / ok / both halves on the wire");
             self.met_if(!authenticator, "step 5 / ok / authenticator made by the intruder");
             self.met_if(!ticket, "step 5 / ok / ticket made by the intruder");
         }

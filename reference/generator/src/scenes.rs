@@ -2,12 +2,14 @@
 
 use reference::file::StepRecord;
 use reference::realm::{Answer, MAX_ENTRIES};
-use reference::terms::Shape;
+use reference::rules::Rules;
+use reference::terms::{Message, Shape};
 
+use crate::forms::{self, Kind};
 use crate::headers::any_header;
 use crate::random::Random;
 use crate::walk::Walk;
-use crate::{actions, ahead, damage, extremes, known, limits, purges};
+use crate::{actions, ahead, carried, damage, extremes, known, limits, purges};
 
 /// A file of any kind. Files on full tables and of full length are long, so
 /// they are made less often.
@@ -24,7 +26,8 @@ pub fn any_damaged_file(random: &mut Random) -> Vec<u8> {
 
 fn file_of(random: &mut Random, kind: usize) -> Vec<u8> {
     match kind {
-        0..=49 => mixed(random).bytes,
+        0..=41 => mixed(random).bytes,
+        42..=49 => carried::carried_tickets(random).bytes,
         50..=54 => ahead::fast_clocks(random).bytes,
         55..=59 => purges::each_tick(random).bytes,
         60..=64 => known::known_parts(random).bytes,
@@ -40,9 +43,9 @@ fn file_of(random: &mut Random, kind: usize) -> Vec<u8> {
         154..=158 => limits::full_runs(random).bytes,
         159..=162 => extremes::deep_terms(random).bytes,
         163 if random.one_in(2) => extremes::longest(random),
-        163..=179 => damaged(random),
-        180..=189 => damage::random_records(random),
-        190..=195 => damage::bad_header(random),
+        163..=176 => damaged(random),
+        177..=184 => damage::random_records(random),
+        185..=195 => damage::bad_header(random),
         _ => damage::random_bytes(random),
     }
 }
@@ -224,14 +227,18 @@ pub fn make_delivery(walk: &mut Walk, made: Made) -> Option<StepRecord> {
 }
 
 /// The intruder makes authenticators for a ticket that he cannot open; then the
-/// key leaks, and they are offered again.
+/// key leaks, and they are offered again. Under H4 the ticket comes by step 4.
 pub fn leaks(random: &mut Random) -> Walk {
     let header = any_header(random);
     let mut walk = Walk::new(random.clone(), header);
     let (a, b) = walk.two_clients();
     walk.offer(StepRecord { step: 1, a, b, ..StepRecord::default() });
     deliver(&mut walk, 3);
-    let ticket = walk.wire().last().cloned();
+    if forms::rules(&walk.realm) == Rules::Within {
+        deliver(&mut walk, 4);
+    }
+    let for_b = |m: &&Message| forms::value(m, "K", Kind::LongTermKey) == Some(b.into());
+    let ticket = walk.sent().iter().rfind(for_b).cloned();
     for _ in 0..walk.random.between(1, 3) {
         let Some(ticket) = ticket.clone() else { break };
         let time = Shape::Time(actions::some_time(&mut walk));

@@ -1,5 +1,7 @@
 //! A walk being written: its bytes, and the realm as it stands after them.
 
+use std::collections::HashSet;
+
 use reference::file::{Header, Record, StepRecord, TermRecord};
 use reference::realm::{Answer, Realm};
 use reference::refusal::Refusal;
@@ -97,7 +99,20 @@ impl Walk {
 
     /// The terms on the wire, by rising number.
     pub fn wire(&self) -> Vec<Message> {
-        let on_wire = |message: &&Message| self.realm.wire.contains(*message);
-        self.realm.terms.present().iter().filter(on_wire).cloned().collect()
+        self.those_in(&self.realm.wire)
+    }
+
+    /// The same, with the halves of the pairs among them.
+    pub fn sent(&self) -> Vec<Message> {
+        let mut sent = self.realm.wire.clone();
+        for (left, right) in self.realm.wire.iter().filter_map(Message::pair) {
+            sent.extend([left.clone(), right.clone()]);
+        }
+        self.those_in(&sent)
+    }
+
+    fn those_in(&self, set: &HashSet<Message>) -> Vec<Message> {
+        let terms = self.realm.terms.present().iter();
+        terms.filter(|message| set.contains(*message)).cloned().collect()
     }
 }

@@ -9,8 +9,9 @@ use generator::edges::edge_cells;
 use generator::headers::{any_header, spoilt_header, unknown_mark};
 use generator::known::known_parts;
 use generator::random::Random;
-use generator::{damaged_file, vectors, walk_file};
-use reference::marks::{format_of, FORMATS};
+use generator::{damaged_file, vectors, walk_file, write};
+use reference::marks::{format_of, mark, FORMATS};
+use reference::rules::Rules;
 
 const SEED: u64 = 1;
 
@@ -48,12 +49,27 @@ fn headers_are_of_every_mark() {
     for format in &FORMATS {
         let headers: Vec<_> = (0..4_000).map(|_| any_header(&mut random)).collect();
         let own: Vec<_> = headers.iter().filter(|header| header.mark == format.mark).collect();
-        assert!(own.len() > 1_000 && own.iter().all(|header| header.check().is_ok()));
+        assert!(own.len() > 800 && own.iter().all(|header| header.check().is_ok()));
         assert!(own.iter().any(|header| header.principals == format.most_principals));
     }
     let spoilt = (0..4_000).filter(|_| spoilt_header(&mut random).check().is_err()).count();
     assert!(spoilt > 3_000, "{spoilt}");
     assert!((0..1_000).all(|_| format_of(unknown_mark(&mut random)).is_none()));
+}
+
+/// Files, damaged files and writes have headers of every mark.
+#[test]
+fn every_mark_is_compared() {
+    let first = |file: &Vec<u8>| file.first_chunk().map(mark);
+    let files: Vec<_> = (0..2_000).map(|number| first(&walk_file(SEED, number))).collect();
+    let damaged: Vec<_> = (0..2_000).map(|number| first(&damaged_file(SEED, number))).collect();
+    let writes: Vec<_> = (0..2_000).map(|number| Some(write(SEED, number).header.mark)).collect();
+    for (inputs, least) in [(files, 300), (damaged, 200), (writes, 400)] {
+        for format in &FORMATS {
+            let own = inputs.iter().filter(|mark| **mark == Some(format.mark)).count();
+            assert!(own > least, "{}: {own}", format.letters());
+        }
+    }
 }
 
 /// Sums in the generator do not pass their types' ends, whatever the seed.
@@ -90,14 +106,17 @@ fn known_parts_are_any_number() {
     for number in 0..400 {
         tally.add(&known_parts(&mut Random::new(SEED, number)).bytes);
     }
-    for step in [1, 3, 4, 5] {
-        let counts = (0..=most_added(step)).map(|added| format!("step {step} / ok / adds {added}"));
-        for cell in counts {
+    let apart = [1, 3, 4, 5].map(|step| (step, Rules::Apart, ""));
+    let carried = [(Rules::Beside, "H5, "), (Rules::Within, "H4, ")];
+    let carried = carried.into_iter().flat_map(|(rules, set)| [(3, rules, set), (4, rules, set)]);
+    for (step, rules, set) in apart.into_iter().chain(carried) {
+        for added in 0..=most_added(step, rules) {
+            let cell = format!("step {step} / ok / {set}adds {added}");
             assert!(tally.count(&cell) > 0, "never met: {cell}");
         }
     }
-    let adds = |cell: &&String| cell.contains(" / ok / adds ");
-    assert_eq!(tally.counts.keys().filter(adds).count(), 6 + 12 + 4 + 2);
+    let adds = |cell: &&String| cell.contains(" / ok / ") && cell.contains("adds ");
+    assert_eq!(tally.counts.keys().filter(adds).count(), 6 + 12 + 4 + 2 + 2 * (13 + 5));
 }
 
 #[test]

@@ -18,10 +18,11 @@ pub fn header(header: &Header) -> engine::Header {
     }
 }
 
-/// Empty tables with a header's values, whatever these are.
+/// Empty tables with a header's values, whatever these are, and its rule set.
 pub fn tables(header: &Header) -> Tables {
     Tables::of(Realm {
         n: header.principals,
+        rules: header.settings().rules,
         flags: header.flags,
         ticket_life: header.ticket_life,
         authenticator_life: header.authenticator_life,

@@ -4,7 +4,7 @@
 use generator::random::Random;
 use lent::{call, is_marked, Entry, Tables, TERM_PLACES, WIRE_WORDS};
 use reference::file::{read_header, read_record, Header, Record, TermRecord};
-use reference::marks::mark;
+use reference::marks::{mark, FORMATS};
 use reference::realm::Realm;
 
 /// The set of the engine is the reference's, bit by bit, and has no bit past the
@@ -101,13 +101,14 @@ fn tables_that_do_not_hold_together_get_10() {
         change(&mut tables);
         assert_eq!(tables.known(), good.known());
     }
-    let breaks: [fn(&mut Tables); 10] = [
+    let breaks: [fn(&mut Tables); 11] = [
         |tables| tables.realm.n = 2,
         |tables| tables.realm.n = 33,
+        |tables| tables.realm.rules = 3,
         |tables| tables.realm.flags |= 1,
         |tables| tables.realm.ticket_life = 0,
         |tables| tables.realm.terms = TERM_PLACES + 1,
-        |tables| tables.realm.terms = 3, // term 2 repeats term 0
+        |tables| (tables.realm.terms, tables.terms[2]) = (3, tables.terms[0]), // it repeats
         |tables| tables.terms.truncate(TERM_PLACES - 1),
         |tables| tables.terms.push(0),
         |tables| tables.wire[0] = 4, // a mark past the last term
@@ -115,9 +116,6 @@ fn tables_that_do_not_hold_together_get_10() {
     ];
     for (number, change) in breaks.iter().enumerate() {
         let mut tables = good.clone();
-        if number == 5 {
-            tables.terms[2] = tables.terms[0];
-        }
         change(&mut tables);
         assert_eq!(tables.known(), Err(10), "{number}");
     }
@@ -125,7 +123,8 @@ fn tables_that_do_not_hold_together_get_10() {
 
 #[test]
 fn realms_open_exactly_where_the_reference_opens_them() {
-    let marks = [mark(b"HD"), mark(b"HW"), mark(b"TM"), mark(b"ST"), 0, 0xffff];
+    let others = [mark(b"TM"), mark(b"ST"), mark(b"H6"), 0xffff];
+    let marks = [FORMATS.map(|format| format.mark), others].concat();
     let (mut opened, mut refused) = (0, 0);
     for number in 0..20_000 {
         let mut random = Random::new(79, number);

@@ -5,8 +5,12 @@ use std::fs;
 use std::path::PathBuf;
 
 use lent::{call, Answer, Tables};
-use reference::file::{read_header, read_record, Record, StepRecord, TermRecord};
+use reference::file::{read_header, read_record, Header, Record, StepRecord, TermRecord};
+use reference::marks::{mark, FORMATS};
 use reference::realm::{Answer as Expected, Realm};
+
+const HEADER: Header =
+    Header { mark: mark(b"HD"), principals: 3, flags: 0, ticket_life: 100, authenticator_life: 10 };
 
 fn ok(run: Option<u8>, added: u16) -> Answer {
     Answer::Ok { run, added }
@@ -87,8 +91,7 @@ fn case_f() {
 /// The same terms again: each is old, and the tables stay.
 #[test]
 fn terms_are_new_once() {
-    let (header, _) = read_header(b"HD\x03\0\0\0\0\0\x64\0\0\0\x0a").unwrap();
-    let mut tables = lent::tables(&header);
+    let mut tables = lent::tables(&HEADER);
     let terms = [(0, 1, 0), (1, 0, 1), (2, 1, 0), (3, 1, 0), (4, 1, 0), (5, 0, 1), (6, 0, 4)];
     let terms = terms.map(|(kind, left, right)| Record::Term(TermRecord { kind, left, right }));
     let added = terms.map(|term| call(&mut tables, &term));
@@ -125,10 +128,9 @@ fn generated_files_agree_with_the_reference() {
 /// "a table lent with other than its full number of places": 10, before all else.
 #[test]
 fn tables_of_other_lengths_are_refused() {
-    let (header, _) = read_header(b"HD\x03\0\0\0\0\0\x64\0\0\0\x0a").unwrap();
     let opens = Record::Step(StepRecord { step: 1, a: 1, b: 2, ..StepRecord::default() });
     let unknown = Record::Step(StepRecord { step: 99, ..StepRecord::default() });
-    let full = lent::tables(&header);
+    let full = lent::tables(&HEADER);
     let mut short = vec![full.clone(); 8];
     short[0].terms.pop();
     short[1].terms.push(0);
@@ -161,9 +163,11 @@ fn broken_tables_are_refused() {
     }
     let ticks = Record::Step(StepRecord { step: 7, time: 5, ..StepRecord::default() });
     assert_eq!(call(&mut whole.clone(), &ticks), ok(None, 0));
-    let breaks: [fn(&mut Tables); 17] = [
+    let breaks: [fn(&mut Tables); 19] = [
         |t| t.realm.n = 2,
         |t| t.realm.n = 33,
+        |t| t.realm.rules = 3,
+        |t| t.realm.rules = 255,
         |t| t.realm.flags = 1,
         |t| t.realm.flags = 8,
         |t| t.realm.flags = 1 << 16,
@@ -189,12 +193,34 @@ fn broken_tables_are_refused() {
     }
 }
 
+/// The tables name the rule set: a reply is taken by that of its own alone, and no
+/// call changes it.
+#[test]
+fn steps_go_by_the_rule_set_of_the_tables() {
+    let opens = Record::Step(StepRecord { step: 1, a: 1, b: 2, ..StepRecord::default() });
+    let serves = Record::Step(StepRecord { step: 3, message: 4, ..StepRecord::default() });
+    for format in &FORMATS {
+        let number = format.rules.number();
+        let (reply, added) = if number == 0 { (11, (11, 1)) } else { (16, (12, 2)) };
+        let takes = Record::Step(StepRecord { step: 4, message: reply, ..StepRecord::default() });
+        let mut served = lent::tables(&Header { mark: format.mark, ..HEADER });
+        assert_eq!(call(&mut served, &opens), ok(Some(0), 5));
+        assert_eq!(call(&mut served, &serves), ok(Some(1), added.0));
+        for rules in 0..3 {
+            let mut tables = served.clone();
+            tables.realm.rules = rules;
+            let expected = if rules == number { ok(Some(0), added.1) } else { Answer::Refused(14) };
+            assert_eq!(call(&mut tables, &takes), expected, "{}", format.letters());
+            assert_eq!(tables.realm.rules, rules);
+        }
+    }
+}
+
 /// A realm keeps no mark: n goes to 32 in each, and its flags with it.
 #[test]
 fn tables_of_32_principals_hold_together() {
     let ticks = Record::Step(StepRecord { step: 7, time: 5, ..StepRecord::default() });
     let opens = Record::Step(StepRecord { step: 1, a: 30, b: 31, ..StepRecord::default() });
-    let (header, _) = read_header(b"HD\x03\0\0\0\0\0\x64\0\0\0\x0a").unwrap();
     let cases = [
         (17, 1 << 16, ok(None, 0), Answer::Refused(6)),
         (31, 1 << 30, ok(None, 0), Answer::Refused(6)),
@@ -204,7 +230,7 @@ fn tables_of_32_principals_hold_together() {
         (33, 0, Answer::Refused(10), Answer::Refused(10)),
     ];
     for (n, flags, ticked, opened) in cases {
-        let mut tables = lent::tables(&header);
+        let mut tables = lent::tables(&HEADER);
         (tables.realm.n, tables.realm.flags) = (n, flags);
         assert_eq!(call(&mut tables.clone(), &ticks), ticked, "n {n}, flags {flags:#x}");
         assert_eq!(call(&mut tables, &opens), opened, "n {n}, flags {flags:#x}");

@@ -86,6 +86,7 @@ fn whole(lent: &Tables) -> tables::Tables {
     tables::Tables {
         settings: Settings {
             principals: realm.n,
+            rules: realm.rules,
             flags: realm.flags,
             ticket_life: realm.ticket_life,
             authenticator_life: realm.authenticator_life,

@@ -127,13 +127,17 @@ fn refusals_have_their_numbers() {
     }
 }
 
-/// The bytes of either header, and the refusals that depend on the mark.
+/// The bytes of headers of each mark, and the refusals that depend on the mark.
 #[test]
 fn headers_are_written_by_their_marks() {
     let wide = Header { mark: mark(b"HW"), principals: 32, flags: 0x8000_0002, ..HEADER };
-    let mut buffer = [5; 16];
-    assert_eq!(write(&wide, &[], &mut buffer, 0), Ok(15));
-    assert_eq!(&buffer, b"HW\x20\x80\0\0\x02\0\0\0\x64\0\0\0\x0a\x05");
+    for letters in [b"HW", b"H5", b"H4"] {
+        let mut buffer = [5; 16];
+        let wide = Header { mark: mark(letters), ..wide };
+        assert_eq!(write(&wide, &[], &mut buffer, 0), Ok(15));
+        assert_eq!(buffer[..2], *letters);
+        assert_eq!(&buffer[2..], b"\x20\x80\0\0\x02\0\0\0\x64\0\0\0\x0a\x05");
+    }
     let headers = [
         (1, Header { mark: mark(b"HX"), ..HEADER }),
         (1, Header { mark: 0, principals: 2, ..HEADER }),
@@ -143,6 +147,9 @@ fn headers_are_written_by_their_marks() {
         (2, Header { principals: 33, flags: 0, ..wide }),
         (2, Header { principals: 31, ..wide }),
         (2, Header { flags: 1, ..wide }),
+        (2, Header { mark: mark(b"H5"), principals: 33, flags: 0, ..wide }),
+        (2, Header { mark: mark(b"H4"), principals: 31, ..wide }),
+        (1, Header { mark: mark(b"H6"), ..wide }),
     ];
     for (number, header) in headers {
         for words in [&[][..], &[0; 7], &[0]] {

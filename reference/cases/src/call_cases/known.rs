@@ -1,6 +1,7 @@
 //! Terms that are known before: by a call that added them, or by a step. Each step
 //! is taken with any number of its terms present.
 
+use super::rules::{H4, H5};
 use super::{
     asks, exchanged, leaks, made_all, opened, opens, serves, takes, term, tick, Call, HEADER,
 };
@@ -81,6 +82,47 @@ pub fn authenticators(script: &mut Script<World>) {
     let calls = [takes(4, 0, 11), opens(2, 1, 2), term(5, 15, 18)];
     let delivered = made_all(&served, &calls);
     each(script, "step 5", &delivered, &[term(6, 16, 5)], takes(5, 2, 19));
+}
+
+/// The same two steps under H5 and H4: the ticket behind the part for 1, and the
+/// pair of the two; the ticket first, and in the part. Step 4 sends the ticket with
+/// the authenticator.
+pub fn carried_tickets(script: &mut Script<World>) {
+    let beside = [
+        term(4, 1, 0),
+        term(1, 0, 0),
+        term(5, 6, 2),
+        term(5, 1, 7),
+        term(5, 5, 8),
+        term(3, 1, 0),
+        term(6, 9, 10),
+        term(5, 0, 6),
+        term(5, 5, 12),
+        term(3, 2, 0),
+        term(6, 13, 14),
+        term(5, 11, 15),
+    ];
+    let within = [
+        term(4, 1, 0),
+        term(1, 0, 0),
+        term(5, 0, 6),
+        term(5, 5, 7),
+        term(3, 2, 0),
+        term(6, 8, 9),
+        term(5, 2, 10),
+        term(5, 6, 11),
+        term(5, 1, 12),
+        term(5, 5, 13),
+        term(3, 1, 0),
+        term(6, 14, 15),
+    ];
+    for (name, header, reply, ticket) in [("H5", H5, beside, 15), ("H4", H4, within, 10)] {
+        let asked = made_all(&opened(header), &[opens(1, 1, 2)]);
+        each(script, &format!("step 3 under {name}"), &asked, &reply, serves(4));
+        let served = made_all(&asked, &[serves(4), tick(3)]);
+        let parts = [term(1, 0, 3), term(5, 0, 17), term(6, 18, 5), term(5, ticket, 19)];
+        each(script, &format!("step 4 under {name}"), &served, &parts, takes(4, 0, 16));
+    }
 }
 
 /// As many places as terms that are not present, one fewer, and none at all.

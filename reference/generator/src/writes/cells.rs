@@ -1,4 +1,4 @@
-//! The cells of the table of writes: what changes 1 and 2 of document 02 make
+//! The cells of the table of writes: what changes 1, 2 and 6 of document 02 make
 //! possible.
 
 use reference::marks::FORMATS;
