@@ -31,9 +31,9 @@
 #include <stddef.h>
 #include <stdint.h>
 
-#define POGANDIR_VERSION "0.7.0"
+#define POGANDIR_VERSION "0.8.0"
 #define POGANDIR_VERSION_MAJOR 0
-#define POGANDIR_VERSION_MINOR 7
+#define POGANDIR_VERSION_MINOR 8
 #define POGANDIR_VERSION_PATCH 0
 
 #ifdef __cplusplus
@@ -55,12 +55,22 @@ enum {
     POGANDIR_FILE_BYTES = 65536     /* a walk file at most */
 };
 
-/* Marks, two letters as a number. The first two begin a file. */
+/* Marks, two letters as a number. The first four begin a file, and each of them
+ * names a rule set. */
 enum {
     POGANDIR_MARK_HD = 0x4844,      /* a header, 3 to 16 principals */
     POGANDIR_MARK_HW = 0x4857,      /* a header, 3 to 32 principals */
+    POGANDIR_MARK_H5 = 0x4835,      /* a header, 3 to 32 principals */
+    POGANDIR_MARK_H4 = 0x4834,      /* a header, 3 to 32 principals */
     POGANDIR_MARK_TM = 0x544D,      /* a term */
     POGANDIR_MARK_ST = 0x5354       /* a step */
+};
+
+/* Rule sets: what steps 3 and 4 send and step 4 takes. docs/MODEL.md has them. */
+enum {
+    POGANDIR_RULES_HD = 0,          /* HD, HW: the server sends the ticket apart */
+    POGANDIR_RULES_H5 = 1,          /* the initiator passes it on, beside its part */
+    POGANDIR_RULES_H4 = 2           /* the initiator passes it on, inside its part */
 };
 
 /* Kinds of terms, with their operands. */
@@ -155,7 +165,7 @@ enum {
 
 /* A header, as a walk file begins with it. */
 typedef struct pogandir_header {
-    uint16_t mark;      /* POGANDIR_MARK_HD or POGANDIR_MARK_HW */
+    uint16_t mark;      /* POGANDIR_MARK_HD, _HW, _H5 or _H4 */
     uint8_t n;          /* principals, the server among them */
     uint32_t flags;     /* bit p marks principal p bad */
     uint32_t ls;        /* ticket life */
@@ -167,6 +177,7 @@ typedef struct pogandir_header {
  * padding, so two are compared by their fields. */
 typedef struct pogandir_realm {
     uint8_t n;
+    uint8_t rules;      /* POGANDIR_RULES_..; any other number is answered 10 */
     uint32_t flags;
     uint32_t ls;
     uint32_t la;
@@ -226,7 +237,7 @@ typedef struct pogandir_opened {
 
 /* ---- functions --------------------------------------------------------- */
 
-/* A new realm: the header's values, clock 0, empty tables.
+/* A new realm: the header's values, its mark's rule set, clock 0, empty tables.
  *
  * refusal is 0 and the realm is new; or 1, the mark is not known; or 2, a
  * header value: n below 3 or above the mark's limit, a flag on principal 0 or
@@ -385,6 +396,7 @@ POGANDIR_AT(header, la, 12);
 
 POGANDIR_SIZE(realm, 48);
 POGANDIR_AT(realm, n, 0);
+POGANDIR_AT(realm, rules, 1);
 POGANDIR_AT(realm, flags, 4);
 POGANDIR_AT(realm, ls, 8);
 POGANDIR_AT(realm, la, 12);

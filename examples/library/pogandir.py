@@ -12,7 +12,7 @@ The constants have the names of the header without POGANDIR_.
 import ctypes
 import os
 
-VERSION = "0.7.0"
+VERSION = "0.8.0"
 
 # How many places each lent table has, and how long files and listings get.
 TERMS = 512
@@ -28,8 +28,15 @@ FILE_BYTES = 65536
 # Marks, two letters as a number.
 MARK_HD = 0x4844
 MARK_HW = 0x4857
+MARK_H5 = 0x4835
+MARK_H4 = 0x4834
 MARK_TM = 0x544D
 MARK_ST = 0x5354
+
+# Rule sets.
+RULES_HD = 0
+RULES_H5 = 1
+RULES_H4 = 2
 
 # Kinds of terms.
 KIND_PRINCIPAL = 0
@@ -128,6 +135,7 @@ class Header(Struct):
 class Realm(Struct):
     _fields_ = [
         ("n", ctypes.c_uint8),
+        ("rules", ctypes.c_uint8),
         ("flags", ctypes.c_uint32),
         ("ls", ctypes.c_uint32),
         ("la", ctypes.c_uint32),

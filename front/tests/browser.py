@@ -22,7 +22,7 @@ EXAMPLES = FRONT.parent / "examples"
 PROBE = (FRONT / "tests" / "probe.js").read_text()
 WIDTHS = [1200, 800]
 PAIR = 5
-ISSUE, ACCEPT, FINISH, TICK, LEAK = 3, 5, 6, 7, 9
+ISSUE, AUTHENTICATE, ACCEPT, FINISH, TICK, LEAK = 3, 4, 5, 6, 7, 9
 REFUSED_UNUSED, REFUSED_RANGE = 5, 6
 
 
@@ -85,19 +85,33 @@ def check_layout(found, width):
     yield f"nothing overflows: {found['overflow']}", max(found["overflow"]) <= width
 
 
-def sources(row, senders, terms):
+def sources(row, senders, terms, mark):
     """Where the parts of a message come from: runs, or else the intruder."""
     message = int(row["takes"])
     if message in senders:
         return [senders[message]]
     kind, left, right = terms[3 * message:3 * message + 3]
-    if kind == PAIR and int(row["step"]) == ACCEPT:
+    takes_pair = int(row["step"]) == ACCEPT or (int(row["step"]), mark) == (AUTHENTICATE, "H5")
+    if kind == PAIR and takes_pair:
         halves = [senders.get(half, "intruder") for half in (left, right)]
         return halves if halves[0] != halves[1] else halves[:1]
     return ["intruder"]
 
 
-def expected_arrows(row, senders, terms):
+def parts(name, message, terms, mark):
+    """The parts of a message that can come as halves of another: both halves of a pair
+    that is passed on, and the ticket inside of a reply."""
+    _, left, right = terms[3 * message:3 * message + 3]
+    if name == "delivery" or (name, mark) == ("reply", "H5"):
+        return [left, right]
+    if (name, mark) == ("reply", "H4"):
+        for _ in range(4):
+            left = terms[3 * left + 2]
+        return [left]
+    return []
+
+
+def expected_arrows(row, senders, terms, mark):
     """The arrows of a row; None where the page alone does not tell."""
     at, refused = int(row["step"]), number(row["answer"])
     if at == LEAK and refused is None:
@@ -107,16 +121,16 @@ def expected_arrows(row, senders, terms):
     if refused == REFUSED_UNUSED or row["takes"] is None:
         return None
     to = None if refused else f"run-{row['answer'].split()[1]}"
-    return [[source, to] for source in sources(row, senders, terms)]
+    return [[source, to] for source in sources(row, senders, terms, mark)]
 
 
-def check_chart(found):
+def check_chart(found, mark):
     steps = [row for row in found["rows"] if row["step"] is not None]
     events = found["events"]
     yield "an event a step", [e["record"] for e in events] == [r["record"] for r in steps]
     senders = {}
     for row, event in zip(steps, events):
-        expected = expected_arrows(row, senders, found["terms"])
+        expected = expected_arrows(row, senders, found["terms"], mark)
         arrows = event["arrows"]
         if expected is not None:
             fits = len(arrows) == len(expected) and all(
@@ -131,14 +145,15 @@ def check_chart(found):
         yield f"clock of record {row['record']}", event["clock"] == is_clock
         told = ("not covered" in event["words"]) == row["warned"]
         yield f"record {row['record']} tells what is not covered", told
-        for sent, its_run in row["sends"]:
-            senders[int(sent)] = f"run-{its_run}"
+        for sent, its_run, name in row["sends"]:
+            for term in [int(sent), *parts(name, int(sent), found["terms"], mark)]:
+                senders[term] = f"run-{its_run}"
 
 
 def checks(found, lines, width, name):
     yield from check_layout(found, width)
     yield from check_rows(found, lines)
-    yield from check_chart(found)
+    yield from check_chart(found, lines[0].split()[1])
     yield "; ".join(found["faults"][:5]) or "folds and cuts", not found["faults"]
     if name == "deep.walk":
         yield "a cut is there to unfold", found["cuts"] > 0

@@ -22,7 +22,9 @@
     visible: row.getBoundingClientRect().height > 0,
     step: row.dataset.step ?? null,
     takes: row.querySelector(".takes")?.dataset.takes ?? null,
-    sends: all(".sends", row).map((sent) => [sent.dataset.wire, sent.dataset.run]),
+    sends: all(".sends", row).map(({ dataset, children }) => [
+      dataset.wire, dataset.run, children[0].textContent,
+    ]),
     warned: Boolean(row.querySelector(".reason.is-warning")),
   }));
 

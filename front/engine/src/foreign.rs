@@ -19,6 +19,8 @@ pub struct Header {
 #[derive(Clone, Copy, Debug, PartialEq, Eq)]
 pub struct Realm {
     pub n: u8,
+    /// The number of the rule set that the header's mark names.
+    pub rules: u8,
     pub flags: u32,
     pub ticket_life: u32,
     pub authenticator_life: u32,

@@ -3,13 +3,14 @@
 
 use engine::{Role, Run, Stage};
 
+use crate::forms;
 use crate::message::{list, Message};
 use crate::notation::Meaning;
 use crate::script::Reader;
 use crate::sentence::{stop, Stop};
 use crate::tokens::{number, wrong, Cursor, Token, Wrong};
-use crate::vocabulary::{Refusal, MOST_NONCE_OR_KEY, STEPS};
-use crate::walk::Walk;
+use crate::vocabulary::{Refusal, MOST_NONCE_OR_KEY};
+use crate::walk::{Sent, Walk};
 
 /// Deeper than any message that a table of 512 terms holds.
 const DEEPEST: usize = 512;
@@ -156,10 +157,10 @@ fn named(reader: &Reader, name: &str, column: usize) -> Result<Message, Stop> {
     }
 }
 
-/// What a run sent, by its names in the table of steps.
+/// What a run sent, and its parts, by their names in the table of messages.
 fn sent(walk: &Walk, run: u8) -> Vec<(&'static str, u16)> {
     let sent = walk.taken.iter().flat_map(|taken| &taken.sent).filter(|sent| sent.run == run);
-    sent.map(|sent| (sent.name, sent.term)).collect()
+    sent.flat_map(Sent::named).collect()
 }
 
 fn listed(name: &str, sent: &[(&'static str, u16)]) -> String {
@@ -188,7 +189,7 @@ fn part_of(reader: &Reader, name: &str, part: &str, column: usize) -> Result<Mes
     if reader.faulty.contains(&format!("{name}.")) {
         return Err(Stop::Silent);
     }
-    let exists = STEPS.iter().any(|step| step.sends.contains(&part));
+    let exists = forms::is_sent(walk.tables.realm.rules, part);
     let what = if exists { "has not sent one" } else { "sends no such message" };
     let listed = listed(name, &sent);
     stop(column, format!("'{name}.{part}': {name} {what}; what it has sent: {listed}"))

@@ -1,12 +1,10 @@
-//! Messages as values without numbers, what each step sends, and where a message
-//! stands in the engine's table. What the steps take is in `forms`; nothing else
-//! knows the messages of the exchange. Numbers always come from the table.
+//! Messages as values without numbers, and where a message stands in the engine's
+//! table. Those of the exchange are in `forms`. Numbers always come from the table.
 
 use std::collections::BTreeSet;
 
-use engine::{Run, Tables, Term};
+use engine::{Tables, Term};
 
-use crate::vocabulary::{ACCEPT, AUTHENTICATE, INITIATE, ISSUE, LEAK};
 use crate::vocabulary::{ENCRYPTED, LONG_TERM_KEY, NONCE, PAIR, PRINCIPAL, SESSION_KEY, TIME};
 
 #[derive(Clone, Debug, PartialEq, Eq, PartialOrd, Ord)]
@@ -33,24 +31,6 @@ pub fn list(mut messages: Vec<Message>) -> Message {
 /// {p, q}k
 pub fn encrypted(body: Vec<Message>, key: Message) -> Message {
     Encrypted(list(body).into(), key.into())
-}
-
-/// What a step sends, with the names of the messages: of a run after the step, its
-/// number, and the nonce that the server was asked with.
-pub fn sent_by(step: u8, number: u8, run: &Run, nonce: u16) -> Vec<Message> {
-    let Run { a, b, k, ts, ta, .. } = *run;
-    let key = || SessionKey(k.into());
-    match step {
-        INITIATE => vec![list(vec![Principal(a), Principal(b), Nonce(number.into())])],
-        ISSUE => vec![
-            encrypted(vec![key(), Principal(b), Time(ts), Nonce(nonce)], LongTermKey(a)),
-            encrypted(vec![key(), Principal(a), Time(ts)], LongTermKey(b)),
-        ],
-        AUTHENTICATE => vec![encrypted(vec![Principal(a), Time(ta)], key())],
-        ACCEPT => vec![encrypted(vec![Time(ta)], key())],
-        LEAK => vec![key()],
-        _ => vec![],
-    }
 }
 
 impl Message {

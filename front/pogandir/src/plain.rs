@@ -18,13 +18,13 @@ pub enum Plain {
 
 /// Whether a word begins a line in this form.
 pub fn begins(word: &str) -> bool {
-    word.eq_ignore_ascii_case(RAW) || Mark::named(word).is_some()
+    word.eq_ignore_ascii_case(RAW) || Mark::beginning(word).is_some()
 }
 
 /// Reads a line; all that is wrong with it is told.
 pub fn read(mut cursor: Cursor) -> Result<Plain, Vec<Wrong>> {
     let word = cursor.advance().expect("a line has a word");
-    match Mark::named(&word.text) {
+    match Mark::beginning(&word.text) {
         Some(mark) => read_record(mark, cursor).map(Plain::Record),
         None => read_raw(cursor).map(Plain::Raw),
     }

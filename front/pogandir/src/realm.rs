@@ -6,12 +6,12 @@ use crate::expression::principal;
 use crate::script::{Done, Reader, State};
 use crate::sentence::{stop, Stop};
 use crate::tokens::Cursor;
-use crate::vocabulary::{Mark, Use, MARKS};
+use crate::vocabulary::{Mark, Use, APART, MARKS};
 
 /// A realm as an example, for messages.
 pub const EXAMPLE: &str = "realm 3 principals, ticket life 100, authenticator life 10";
 
-/// realm [HW] 3 principals, ticket life 100, authenticator life 10, bad p1 and p2
+/// realm [H5] 3 principals, ticket life 100, authenticator life 10, bad p1 and p2
 pub fn realm(reader: &mut Reader, mut cursor: Cursor) -> Result<Done, Stop> {
     let column = cursor.column();
     if !matches!(reader.state, State::Start) {
@@ -51,10 +51,11 @@ struct Clauses {
 
 const CLAUSES: &str = "ticket life 100, authenticator life 10, bad NAME and NAME";
 
-/// The first mark in the table that allows so many principals, or else the last.
+/// The first mark of document 01's rule set that allows so many principals, or else
+/// its last.
 fn mark_for(n: u8) -> &'static Mark {
-    let mut marks = MARKS.iter().filter(|mark| mark.is_header());
-    let allows = |mark: &&Mark| matches!(mark.purpose, Use::Header { most } if n <= most);
+    let mut marks = MARKS.iter().filter(|mark| mark.rules() == Some(APART));
+    let allows = |mark: &&Mark| matches!(mark.purpose, Use::Header { most, .. } if n <= most);
     marks.clone().find(allows).or_else(|| marks.next_back()).expect("there is a header")
 }
 

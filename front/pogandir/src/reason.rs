@@ -5,7 +5,7 @@ use std::collections::BTreeSet;
 use engine::{is_marked, Call, Header, Set, Tables, TERM_PLACES};
 
 use crate::answers::{role, stage};
-use crate::forms;
+use crate::forms::{self, Values};
 use crate::message::missing;
 use crate::notation::notation;
 use crate::vocabulary::*;
@@ -13,7 +13,7 @@ use crate::walk::Walk;
 
 /// Why a header was refused.
 pub fn header(mark: &Mark, header: &Header) -> String {
-    let Use::Header { most } = mark.purpose else { return String::new() };
+    let Use::Header { most, .. } = mark.purpose else { return String::new() };
     let n = header.n;
     let above = u64::from(header.flags) >> n.min(63);
     let words = [
@@ -90,25 +90,25 @@ fn step_refused(walk: &Walk, before: &Tables, call: Call, refusal: u8) -> Option
         REFUSED_CLOCK => format!("the clock is {clock}, and {t} is before it"),
         REFUSED_RUNS_FULL => format!("runs 0 to {} are there", realm.runs - 1),
         REFUSED_FORM => {
-            let form = forms::form(&walk.names, step, run, before.run(run))?;
+            let form = forms::form(&walk.names, before, step, run)?;
             format!("the step takes {form}")
         }
         REFUSED_UNDERIVABLE => format!("he lacks {}", lacks(walk, before, m)),
         REFUSED_TICKET => {
-            let ts = u64::from(forms::ts(before, step, run, m)?);
+            let ts = u64::from(forms::values(before, call)?.ts?);
             format!("Ts {ts} + Ls {ls} = {}, and the clock is {clock}", ts + ls)
         }
         REFUSED_AUTHENTICATOR => {
-            let ta = u64::from(forms::key_and_ta(before, m)?.1);
+            let ta = u64::from(forms::values(before, call)?.ta?);
             format!("Ta {ta} + La {la} = {}, and the clock is {clock}", ta + la)
         }
         REFUSED_AHEAD => {
-            let ta = forms::key_and_ta(before, m)?.1;
+            let ta = forms::values(before, call)?.ta?;
             format!("Ta is {ta}, and clock {clock} + La {la} = {}", u64::from(clock) + la)
         }
-        REFUSED_REPLAY => replayed(walk, before, run, m)?,
+        REFUSED_REPLAY => replayed(walk, before, call)?,
         REFUSED_CACHE_FULL => cache_full(walk, before),
-        REFUSED_TERMS_FULL => full(before, missing(&forms::would_send(before, call)?, before)),
+        REFUSED_TERMS_FULL => full(before, missing(&forms::sent(before, call)?, before)),
         _ => return None,
     })
 }
@@ -179,9 +179,10 @@ fn least(
     }
 }
 
-fn replayed(walk: &Walk, before: &Tables, run: u8, m: u16) -> Option<String> {
-    let b = before.run(run)?.b;
-    let (k, ta) = forms::key_and_ta(before, m)?;
+fn replayed(walk: &Walk, before: &Tables, call: Call) -> Option<String> {
+    let Values { b: Some(b), k: Some(k), ta: Some(ta), .. } = forms::values(before, call)? else {
+        return None;
+    };
     let entry = engine::Entry { b: b.into(), k: k.into(), ta };
     let place = before.entries().iter().position(|&other| other == entry)?;
     let record = walk.remembered(entry)?;

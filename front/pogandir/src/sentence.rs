@@ -74,7 +74,7 @@ impl Reader {
         }
         let is_word_here = TAKEN.iter().any(|word| word.eq_ignore_ascii_case(text));
         let is_taken =
-            is_word_here || LETTERS.contains(&text.as_str()) || Mark::named(text).is_some();
+            is_word_here || LETTERS.contains(&text.as_str()) || Mark::beginning(text).is_some();
         if !is_name(text) || is_taken || number(text).is_some() || atom(text, *column)?.is_some() {
             let allowed =
                 "letters, digits, - and _, no word of the language, not as t20, N0, k1, p1";

@@ -1,6 +1,7 @@
-//! Everything that has a number or a name in a walk: marks and their fields, kinds
-//! of terms, steps, refusals. Reading, writing, sentences and the sheet all look
-//! here, so a mark, step or refusal more is a row more.
+//! Everything that has a number or a name in a walk: marks and their fields, rule
+//! sets, kinds of terms, steps, refusals. Reading, writing, sentences and the sheet
+//! all look here, so a mark, step or refusal more is a row more. The messages of the
+//! steps are in `forms`.
 
 /// A field of a record: its name in the text form, and its bytes in the file.
 #[derive(Clone, Copy, Debug, PartialEq, Eq)]
@@ -23,9 +24,10 @@ impl Field {
 /// What a record is for.
 #[derive(Clone, Copy, Debug, PartialEq, Eq)]
 pub enum Use {
-    /// It opens the realm, of at most so many principals.
+    /// It opens the realm, of at most so many principals, under a rule set.
     Header {
         most: u8,
+        rules: u8,
     },
     Term,
     Step,
@@ -39,17 +41,25 @@ pub struct Mark {
     pub fields: &'static [Field],
 }
 
-pub const MARKS: [Mark; 4] = [
-    Mark {
-        letters: "HD",
-        purpose: Use::Header { most: 16 },
-        fields: &[field("n", 1), field("flags", 2), field("Ls", 4), field("La", 4)],
-    },
-    Mark {
-        letters: "HW",
-        purpose: Use::Header { most: 32 },
-        fields: &[field("n", 1), field("flags", 4), field("Ls", 4), field("La", 4)],
-    },
+/// Rule sets, by where the ticket is: apart from the reply, and the server sends it;
+/// or in the reply, beside the initiator's part or inside of it, and the initiator
+/// passes it on.
+pub const APART: u8 = 0;
+pub const BESIDE: u8 = 1;
+pub const INSIDE: u8 = 2;
+
+const NARROW: &[Field] = &[field("n", 1), field("flags", 2), field("Ls", 4), field("La", 4)];
+const WIDE: &[Field] = &[field("n", 1), field("flags", 4), field("Ls", 4), field("La", 4)];
+
+const fn header(letters: &'static str, fields: &'static [Field], most: u8, rules: u8) -> Mark {
+    Mark { letters, purpose: Use::Header { most, rules }, fields }
+}
+
+pub const MARKS: [Mark; 6] = [
+    header("HD", NARROW, 16, APART),
+    header("HW", WIDE, 32, APART),
+    header("H5", WIDE, 32, BESIDE),
+    header("H4", WIDE, 32, INSIDE),
     Mark {
         letters: "TM",
         purpose: Use::Term,
@@ -74,8 +84,23 @@ impl Mark {
         MARKS.iter().find(|mark| mark.letters.eq_ignore_ascii_case(letters))
     }
 
+    /// The mark that a line begins with. Of those with a digit the capitals matter
+    /// there, since h5 can be a run.
+    pub fn beginning(word: &str) -> Option<&'static Mark> {
+        let is_word = word.chars().all(char::is_alphabetic);
+        Mark::named(word).filter(|mark| is_word || mark.letters == word)
+    }
+
     pub fn is_header(&self) -> bool {
-        matches!(self.purpose, Use::Header { .. })
+        self.rules().is_some()
+    }
+
+    /// The rule set that a header's mark names.
+    pub fn rules(&self) -> Option<u8> {
+        match self.purpose {
+            Use::Header { rules, .. } => Some(rules),
+            _ => None,
+        }
     }
 
     /// Bytes of a whole record, its mark among them.
@@ -147,14 +172,12 @@ impl Kind {
     }
 }
 
-/// A step: which fields it uses, and the names of the messages that it takes and
-/// sends.
+/// A step: which fields it uses, and the name of the message that it takes.
 #[derive(Clone, Copy, Debug, PartialEq, Eq)]
 pub struct Step {
     pub number: u8,
     pub uses: &'static [&'static str],
     pub takes: Option<&'static str>,
-    pub sends: &'static [&'static str],
 }
 
 /// An initiator asks the server, a responder waits, the server answers.
@@ -173,26 +196,21 @@ pub const PURGE: u8 = 8;
 pub const LEAK: u8 = 9;
 pub const QUERY: u8 = 10;
 
-const fn step(
-    number: u8,
-    uses: &'static [&'static str],
-    takes: Option<&'static str>,
-    sends: &'static [&'static str],
-) -> Step {
-    Step { number, uses, takes, sends }
+const fn step(number: u8, uses: &'static [&'static str], takes: Option<&'static str>) -> Step {
+    Step { number, uses, takes }
 }
 
 pub const STEPS: [Step; 10] = [
-    step(INITIATE, &["a", "b"], None, &["request"]),
-    step(RESPOND, &["a", "b"], None, &[]),
-    step(ISSUE, &["m"], Some("request"), &["reply", "ticket"]),
-    step(AUTHENTICATE, &["run", "m"], Some("reply"), &["authenticator"]),
-    step(ACCEPT, &["run", "m"], Some("delivery"), &["confirmation"]),
-    step(FINISH, &["run", "m"], Some("confirmation"), &[]),
-    step(TICK, &["t"], None, &[]),
-    step(PURGE, &["b"], None, &[]),
-    step(LEAK, &["run"], None, &["key"]),
-    step(QUERY, &["m"], Some("message"), &[]),
+    step(INITIATE, &["a", "b"], None),
+    step(RESPOND, &["a", "b"], None),
+    step(ISSUE, &["m"], Some("request")),
+    step(AUTHENTICATE, &["run", "m"], Some("reply")),
+    step(ACCEPT, &["run", "m"], Some("delivery")),
+    step(FINISH, &["run", "m"], Some("confirmation")),
+    step(TICK, &["t"], None),
+    step(PURGE, &["b"], None),
+    step(LEAK, &["run"], None),
+    step(QUERY, &["m"], Some("message")),
 ];
 
 impl Step {

@@ -6,18 +6,26 @@ use std::collections::BTreeMap;
 use engine::{Answer, Call, Entry, Header, Role, Run, Set, Stage, Tables, WIRE_WORDS};
 
 use crate::answers;
-use crate::forms;
-use crate::message::sent_by;
+use crate::forms::{self, Form};
 use crate::notation::Names;
 use crate::reason;
-use crate::vocabulary::{Step, ACCEPT, ISSUE, LEAK};
+use crate::vocabulary::{ACCEPT, LEAK};
 
-/// A message that a step sent: its name in the table of steps, and the run.
-#[derive(Clone, Copy, Debug, PartialEq, Eq)]
+/// A message that a step sent: its name in the table of messages, the run, and the
+/// parts of the message that have names.
+#[derive(Clone, Debug, PartialEq, Eq)]
 pub struct Sent {
     pub name: &'static str,
     pub term: u16,
     pub run: u8,
+    pub parts: Vec<(&'static str, u16)>,
+}
+
+impl Sent {
+    /// The message with its name, then its parts.
+    pub fn named(&self) -> impl Iterator<Item = (&'static str, u16)> + '_ {
+        [(self.name, self.term)].into_iter().chain(self.parts.iter().copied())
+    }
 }
 
 /// What stands behind an acceptance: its one initiator run, or why nothing is
@@ -102,7 +110,7 @@ impl Walk {
             Answer::Refused(number) => reason::refused(self, &before, call, number),
             _ => answers::accepted(self, &before, call),
         };
-        let sent = self.sent(call, answer);
+        let sent = self.sent(&before, call, answer);
         self.note_leak(call, answer);
         let acceptance = self.acceptance(call, answer);
         if let Some(acceptance) = &acceptance {
@@ -144,21 +152,22 @@ impl Walk {
         }
     }
 
-    fn sent(&self, call: Call, answer: Answer) -> Vec<Sent> {
-        let (Call::Step { step, m, .. }, Answer::Ok { run: Some(number), .. }) = (call, answer)
-        else {
+    fn sent(&self, before: &Tables, call: Call, answer: Answer) -> Vec<Sent> {
+        let (Call::Step { step, .. }, Answer::Ok { run: Some(run), .. }) = (call, answer) else {
             return Vec::new();
         };
-        let run = self.tables.run(number).expect("the run is there");
-        let nonce = if step == ISSUE { forms::nonce(&self.tables, m).unwrap_or(0) } else { 0 };
-        let names = Step::of(step.into()).expect("an accepted step is in the table").sends;
-        let messages = sent_by(step, number, &run, nonce);
-        let sent = |(&name, message): (&&'static str, &crate::message::Message)| {
-            let term = message.find(&self.tables).expect("what was sent is a term");
-            assert!(self.tables.is_on_wire(term), "what was sent is on the wire");
-            Sent { name, term, run: number }
+        let values = forms::values(before, call).expect("an accepted step has its values");
+        let term = |form: &Form| {
+            let message = form.message(&values).expect("what was sent has its values");
+            message.find(&self.tables).expect("what was sent is a term")
         };
-        names.iter().zip(&messages).map(sent).collect()
+        let sent = |sent: forms::Named| {
+            let (name, whole) = (sent.name, term(&sent.form));
+            assert!(self.tables.is_on_wire(whole), "what was sent is on the wire");
+            let parts = sent.parts.iter().map(|(name, form)| (*name, term(form)));
+            Sent { name, term: whole, run, parts: parts.collect() }
+        };
+        forms::sends(before.realm.rules, step).into_iter().map(sent).collect()
     }
 
     fn note_leak(&mut self, call: Call, answer: Answer) {

@@ -54,19 +54,21 @@ fn texts_of_files_give_the_files_back() {
     }
 }
 
-const WORDS: &str = "HD HW TM ST raw realm principals ticket life authenticator bad and 0 1 2 3 16 100 = => , [ ] { } ( ) \
+const WORDS: &str = "HD HW H5 H4 TM ST raw realm principals ticket life authenticator bad and 0 1 2 3 16 100 = => , [ ] { } ( ) \
     panel cabinet r0 s0 c0 asks waits for answers forgets takes leak clock term intruder derives server now t0 N0 k0 K k N Ts Ta \
-    s0.reply s0.ticket r0.authenticator c0.confirmation r0.request ok refused new old any end run n Ls La flags L R a b m t 0x7 -1 +5 é";
+    s0.reply s0.part s0.ticket r0.authenticator r0.ticket r0.delivery c0.confirmation r0.request ok refused new old any end run n Ls La flags L R a b m t 0x7 -1 +5 é";
 
 /// Whatever the words, the text is read to its end.
 #[test]
 fn random_words_are_read() {
     let words: Vec<&str> = WORDS.split_whitespace().collect();
-    let start = "realm 3 principals, ticket life 100, authenticator life 10\npanel = 1, cabinet = 2\n\
+    let start = "3 principals, ticket life 100, authenticator life 10\npanel = 1, cabinet = 2\n\
         r0 = panel asks cabinet\ns0 = server answers r0\nr0 takes s0.reply\nc0 = cabinet waits for panel\n";
     for number in 0..3000 {
         let mut random = Random::new(93, number);
-        let mut text = if random.percent(70) { start.to_string() } else { String::new() };
+        let mark = random.pick(&["HD", "HW", "H5", "H4"]);
+        let realm = format!("realm {mark} {start}");
+        let mut text = if random.percent(70) { realm } else { String::new() };
         for _ in 0..random.below(12) {
             let line: Vec<&str> = (0..random.below(9)).map(|_| random.pick(&words)).collect();
             text += &format!("{}\n", line.join(" "));

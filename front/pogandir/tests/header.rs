@@ -38,6 +38,10 @@ fn marks_kinds_steps_and_refusals_are_those_of_the_header() {
         let mark = Mark::named(&letters).unwrap_or_else(|| panic!("{letters}"));
         assert_eq!(u32::from(mark.number()), number, "{letters}");
     }
+    for (letters, rules) in numbers("POGANDIR_RULES_") {
+        let mark = Mark::named(&letters).unwrap_or_else(|| panic!("{letters}"));
+        assert_eq!(mark.rules().map(u32::from), Some(rules), "{letters}");
+    }
     let kinds = sorted(numbers("POGANDIR_KIND_").into_values());
     assert_eq!(kinds, sorted(KINDS.map(|kind| kind.number.into())));
     let steps = sorted(numbers("POGANDIR_STEP_").into_values());

@@ -45,6 +45,11 @@ fn texts_have_their_bytes() {
             "48 57 20 ff ff ff fe 00 00 00 00 00 00 00 01".to_string(),
         ),
         ("HW", format!("48 57{}", zeros(13))),
+        (
+            "H5 n=25 flags=0x01000000 Ls=100 La=10",
+            "48 35 19 01 00 00 00 00 00 00 64 00 00 00 0a".to_string(),
+        ),
+        ("H4", format!("48 34{}", zeros(13))),
         ("HW n=3 flags=2\nST 9", format!("48 57 03 00 00 00 02{} 53 54 09{}", zeros(8), zeros(9))),
         ("TM 5 L=15 R=16", "54 4d 05 00 0f 00 10".to_string()),
         ("TM 1 R=65535 L=1", "54 4d 01 00 01 ff ff".to_string()),
@@ -79,6 +84,8 @@ fn faults_name_line_column_field_and_what_is_allowed() {
             "flags: 0x10000 does not fit in 2 bytes; 0 to 65535 is allowed",
         ),
         ("HW flags=0x100000000", 1, 10, "flags: 0x100000000 does not fit in 4 bytes"),
+        ("H5 flags=0x100000000", 1, 10, "flags: 0x100000000 does not fit in 4 bytes"),
+        ("h5 n=3", 1, 1, "this is no sentence"),
         ("HW 3", 1, 4, "'3' is not of the form field=number"),
         ("HW L=3", 1, 4, "HW has no field 'L'; it has n, flags, Ls, La"),
         ("\n\nTM", 3, 3, "TM needs its kind first"),
@@ -127,6 +134,10 @@ fn values_that_will_be_refused_are_warned_of() {
         ("HD n=0 flags=2 Ls=1 La=1", 2, "n is 0, and under HD 3 to 16 is allowed"),
         ("HD n=17 Ls=1 La=1", 2, "under HD 3 to 16"),
         ("HW n=33 Ls=1 La=1", 2, "under HW 3 to 32"),
+        ("H5 n=33 Ls=1 La=1", 2, "under H5 3 to 32"),
+        ("H4 n=2 Ls=1 La=1", 2, "under H4 3 to 32"),
+        ("H4 n=3 flags=8 Ls=1 La=1", 2, "a flag at 3 or above"),
+        ("H5 n=3 Ls=1 La=1\nH4 n=3 Ls=1 La=1", 3, "a walk has one header"),
         ("HD n=3 flags=1 Ls=1 La=1", 2, "a flag on 0, the server"),
         ("HD n=3 flags=8 Ls=1 La=1", 2, "a flag at 3 or above"),
         ("HD n=3 La=1", 2, "Ls, the ticket's life, is 0"),
@@ -185,6 +196,10 @@ fn bytes_have_their_texts() {
             "48 57 03 00 00 00 00 00 00 00 64 00 00 00",
             vec!["raw 48 57 03 00 00 00 00 00 00 00 64 00 00 00"],
         ),
+        (
+            "48 34 03 00 00 00 06 00 00 00 64 00 00 00 0a 48 35",
+            vec!["H4 n=3 flags=0x00000006 Ls=100 La=10", "raw 48 35"],
+        ),
         ("53 54 04 00 00 00 00 0b 00 00 00 00", vec!["ST 4 run=0 m=11"]),
         ("53 54 08 00 00 02 00 00 00 00 00 05", vec!["ST 8 b=2 t=5"]),
         ("54 4d 00 00 00 00 00", vec!["TM 0 L=0"]),
@@ -227,7 +242,8 @@ fn any_records_come_back() {
     for _ in 0..2000 {
         let mut data = Vec::new();
         for _ in 0..numbers.below(8) {
-            let mark = pogandir::vocabulary::MARKS[numbers.below(4) as usize];
+            let marks = pogandir::vocabulary::MARKS;
+            let mark = marks[numbers.below(marks.len() as u64) as usize];
             data.extend(mark.letters.as_bytes());
             let most = if numbers.below(2) == 0 { 12 } else { 256 };
             data.extend((2..mark.record_bytes()).map(|_| numbers.below(most) as u8));

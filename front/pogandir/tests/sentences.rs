@@ -61,15 +61,18 @@ fn examples_make_their_files_and_do_what_they_say() {
 /// "Inserting a clock step changes no other line": at every place of an exchange.
 #[test]
 fn a_clock_step_can_stand_anywhere() {
-    let text = fs::read_to_string(examples("names")[6].as_path()).unwrap();
-    assert!(text.contains("a replay of its delivery"), "case F");
-    let all: Vec<&str> = text.lines().collect();
-    let first = all.iter().position(|line| line.starts_with("realm")).unwrap();
-    for place in first + 1..all.len() - 1 {
-        let mut with = all.clone();
-        with.insert(place, "clock 1");
-        with.pop(); // what is expected at the end: clock 0
-        holds(&with.join("\n"));
+    for name in ["case-f", "case-f-h5", "case-f-h4"] {
+        let path =
+            examples("names").into_iter().find(|path| path.file_stem() == Some(name.as_ref()));
+        let text = fs::read_to_string(path.unwrap()).unwrap();
+        let all: Vec<&str> = text.lines().collect();
+        let first = all.iter().position(|line| line.starts_with("realm")).unwrap();
+        for place in first + 1..all.len() - 1 {
+            let mut with = all.clone();
+            with.insert(place, "clock 1");
+            with.pop(); // what is expected at the end: clock 0
+            holds(&with.join("\n"));
+        }
     }
 }
 
@@ -115,7 +118,10 @@ fn realms_have_their_headers() {
         (format!("realm 3 principals, {lives}"), "HD n=3 flags=0 Ls=7 La=8"),
         (format!("realm 16 principals, {lives}"), "HD n=16 flags=0 Ls=7 La=8"),
         (format!("realm 17 principals, {lives}"), "HW n=17 flags=0 Ls=7 La=8"),
+        (format!("realm 33 principals, {lives}"), "HW n=33 flags=0 Ls=7 La=8"),
         (format!("realm HW 3 principals, {lives}"), "HW n=3 flags=0 Ls=7 La=8"),
+        (format!("realm H5 3 principals, {lives}"), "H5 n=3 flags=0 Ls=7 La=8"),
+        (format!("realm h4 32 principals, {lives}, bad 31"), "H4 n=32 flags=0x80000000 Ls=7 La=8"),
         (
             format!("x = 2\nrealm 4 principals, {lives}, bad x and p3"),
             "HD n=4 flags=0x000c Ls=7 La=8",
@@ -261,7 +267,7 @@ fn faults_name_their_place_and_what_is_allowed() {
         (
             "hello world",
             1,
-            "this is no sentence; a line is a record (HD, HW, TM, ST, raw) or one of",
+            "this is no sentence; a line is a record (HD, HW, H5, H4, TM, ST, raw) or one of",
         ),
     ];
     for (text, column, message) in cases {

@@ -259,16 +259,51 @@ fn entries_tell_when_their_life_ends_and_when_they_go() {
     assert_eq!(rows[6].entries[0].text, "p2, k1, Ta 0, live before 3");
 }
 
+/// The arrows of a page: from where, and to where.
+fn arrows(html: &str) -> Vec<(&str, &str)> {
+    attributes(html, "data-from").into_iter().zip(attributes(html, "data-to")).collect()
+}
+
+/// Under each mark case F's exchange, with the delivery as that mark has it.
 #[test]
 fn the_chart_draws_each_message_from_the_run_that_sent_it() {
-    let html = sheet::html(&example("case-f.walk"));
-    let arrows: Vec<(&str, &str)> =
-        attributes(&html, "data-from").into_iter().zip(attributes(&html, "data-to")).collect();
-    let delivery = |to| [("run-1", to), ("run-0", to)];
-    let mut expected = vec![("run-0", "run-1"), ("run-1", "run-0")];
-    expected.extend(delivery("run-2"));
-    expected.push(("run-2", "run-0"));
-    expected.extend(delivery("run-3"));
-    assert_eq!(arrows, expected);
-    assert_eq!(html.matches("refused 18</text>").count(), 1);
+    let exchanges = [("case-f", false), ("case-f-h5", true), ("case-f-h4", true)];
+    for (name, passed_on) in exchanges {
+        let html = sheet::html(&named(&top().join(format!("examples/{name}.names"))));
+        let delivery = |to| match passed_on {
+            true => vec![("run-0", to)],
+            false => vec![("run-1", to), ("run-0", to)],
+        };
+        let mut expected = vec![("run-0", "run-1"), ("run-1", "run-0")];
+        expected.extend(delivery("run-2"));
+        expected.push(("run-2", "run-0"));
+        expected.extend(delivery("run-3"));
+        assert_eq!(arrows(&html), expected, "{name}");
+        assert_eq!(html.matches("refused 18</text>").count(), 1, "{name}");
+        let deliveries = html.matches("</tspan> delivery</text>").count();
+        assert_eq!(deliveries, if passed_on { 2 } else { 0 }, "{name}");
+    }
+}
+
+/// A pair that no run sent as a whole is drawn by its halves.
+#[test]
+fn the_chart_draws_halves_from_where_they_come() {
+    let start = "r0 = panel asks cabinet\ns0 = server answers r0\n";
+    let page = |mark: &str, sentences: &str| {
+        let realm = "3 principals, ticket life 100, authenticator life 10";
+        let names = "panel = 1, cabinet = 2";
+        let text = format!("realm {mark} {realm}\n{names}\n{start}{sentences}");
+        sheet::html(&script::read("text", &text).listed)
+    };
+    let html = page("H5", "r0 takes [s0.part, t7]");
+    assert_eq!(arrows(&html)[1..], [("run-1", "run-0"), ("intruder", "run-0")]);
+    assert!(html.contains("</tspan> part</text>") && html.contains("</tspan> ticket</text>"));
+    // a ticket that the initiator passed on, with another authenticator
+    let sentences = "r0 takes s0.reply\nleak s0\nc0 = cabinet waits for panel\n\
+        c0 takes [s0.ticket, {panel, t3}k(s0)]";
+    for (mark, sender) in [("HD", "run-1"), ("HW", "run-1"), ("H5", "run-0"), ("H4", "run-0")] {
+        let html = page(mark, sentences);
+        let last = arrows(&html).split_off(3);
+        assert_eq!(last, [(sender, "run-2"), ("intruder", "run-2")], "{mark}");
+    }
 }

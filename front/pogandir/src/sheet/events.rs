@@ -5,8 +5,9 @@ use std::collections::BTreeMap;
 use engine::{Call, Term};
 
 use super::rows::{Kind, Row};
+use crate::forms;
 use crate::vocabulary::{Step, INITIATE, ISSUE, LEAK, PAIR, PURGE, QUERY, TICK};
-use crate::vocabulary::{ACCEPT, REFUSED_FORM, RESPOND};
+use crate::vocabulary::{REFUSED_FORM, RESPOND};
 use crate::walk::{Acceptance, Walk};
 
 /// A lifeline: a run's, the server's where it refused and opened none, or the
@@ -51,9 +52,6 @@ pub struct Event {
     pub act: Act,
 }
 
-/// The names of a delivery's halves, which they have if it has the step's form.
-const HALVES: [&str; 2] = ["ticket", "authenticator"];
-
 /// The run that sent a term last, and the message's name.
 type Senders = BTreeMap<u16, (u8, &'static str)>;
 
@@ -67,8 +65,8 @@ pub fn events(walk: &Walk, rows: &[Row]) -> Vec<Event> {
             let told = format!("record {}: {}: {}", row.record, row.call, row.answer);
             events.push(Event { record: row.record, told, act });
         }
-        for sent in &row.sent {
-            senders.extend(sent.message.term.map(|term| (term, (sent.run, sent.name))));
+        for sent in &taken.sent {
+            senders.extend(sent.named().map(|(name, term)| (term, (sent.run, name))));
         }
     }
     events
@@ -114,8 +112,9 @@ fn takes(walk: &Walk, senders: &Senders, row: &Row, to: Lane) -> Act {
     }
 }
 
-/// Where a message comes from: from the run that sent it, or each half of a delivery
-/// by itself, or from the intruder.
+/// Where a message comes from: from the run that sent it, or each half by itself where
+/// the step takes a pair, or from the intruder. Halves have their names if the message
+/// has the step's form.
 fn parts(walk: &Walk, senders: &Senders, row: &Row, term: u16) -> Vec<Part> {
     let Kind::Step(step) = row.kind else { return Vec::new() };
     let name = Step::of(step.into()).and_then(|step| step.takes).unwrap_or("message");
@@ -124,11 +123,12 @@ fn parts(walk: &Walk, senders: &Senders, row: &Row, term: u16) -> Vec<Part> {
         Some(Part { from: Lane::Run(*run), name: name.to_string() })
     };
     let made = |name: &str| Part { from: Lane::Intruder, name: name.to_string() };
-    match (sent(term), walk.tables.term(term)) {
-        (Some(part), _) => vec![part],
-        (None, Some(Term { kind: PAIR, l, r })) if step == ACCEPT => {
+    let halves = forms::halves(walk.tables.realm.rules, step);
+    match (sent(term), walk.tables.term(term), halves) {
+        (Some(part), ..) => vec![part],
+        (None, Some(Term { kind: PAIR, l, r }), Some(halves)) => {
             let fits = row.refused.is_none_or(|refusal| refusal > REFUSED_FORM);
-            let halves = if fits { HALVES } else { ["part", "part"] };
+            let halves = if fits { halves } else { ["part", "part"] };
             let half = |(term, name)| sent(term).unwrap_or_else(|| made(name));
             let halves: Vec<Part> = [l, r].into_iter().zip(halves).map(half).collect();
             match halves.iter().all(|half| half.from == Lane::Intruder) {
