@@ -14,6 +14,7 @@ use super::world::new;
 use super::world::set_counts;
 use super::world::set_entry;
 use super::world::set_header;
+use super::world::set_rules;
 use super::world::set_run;
 use super::world::set_term;
 use super::world::set_wire;
@@ -209,6 +210,7 @@ pub fn obey(w: World, line: Line) -> World {
         }
         b'N' => new(),
         b'H' => set_header(w, line),
+        b'G' => set_rules(w, line),
         b'C' => set_counts(w, line),
         b'T' => set_term(w, line),
         b'R' => set_run(w, line),

@@ -48,9 +48,10 @@ pub fn print_answer(answer: Answer) {
 }
 
 // A realm, field by field.
-fn fields(h: Realm) -> [u64; 8] {
+fn fields(h: Realm) -> [u64; 9] {
     [
         h.n as u64,
+        h.rules as u64,
         h.flags as u64,
         h.ls as u64,
         h.la as u64,

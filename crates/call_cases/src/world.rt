@@ -63,6 +63,14 @@ pub fn set_header(w: World, line: Line) -> World {
     next
 }
 
+pub fn set_rules(w: World, line: Line) -> World {
+    let mut next = w;
+    let mut h = w.realm;
+    h.rules = (line.a % 256) as u8;
+    next.realm = h;
+    next
+}
+
 pub fn set_counts(w: World, line: Line) -> World {
     let mut next = w;
     let mut h = w.realm;

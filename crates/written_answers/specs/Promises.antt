@@ -62,7 +62,8 @@ module _ (g : Header) (fits : HeaderSized g) (words : List ℕ) (w : Words32 wor
 
   -- Its header opens a realm,
   pub walk-opens : openingOf g ≡ Open realm
-  walk-opens = sym (opened g refl (written-passes g words buffer at count after e .header))
+  unfolding openingOf
+  walk-opens = sym (opened g _ (written-passes g words buffer at count after e .header))
 
   -- and none of its records, which are read to the end of the file (`read-back` of `written_walks`), is refused for its own fields.
   pub walk-taken : TakenPast (newTables realm) (callsFrom (recordsOf words))

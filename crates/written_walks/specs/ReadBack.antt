@@ -86,11 +86,11 @@ body-back (Step step run a b m t ∷ raws) f = step-back step run a b m t (recor
 body-back (Unknown ∷ raws) f = absurd (f .0)
 
 -- the values are read from where they were written
-fields-back : (width : Flags) (mark most : ℕ) (g : Header) (rest : List ℕ) → mark ≡ g .mark → g .flags < 2 ^ bits width → g .ls < 2 ^ 32 → g .la < 2 ^ 32
-    → let f : Format = record { mark = mark; flags = width; most = most } in
+fields-back : (width : Flags) (mark most rules : ℕ) (g : Header) (rest : List ℕ) → mark ≡ g .mark → g .flags < 2 ^ bits width → g .ls < 2 ^ 32 → g .la < 2 ^ 32
+    → let f : Format = record { mark = mark; flags = width; most = most; rules = rules } in
     fieldsOf f (headerAs (Found f) g ++ rest) ≡ g
-fields-back Bits16 mark most g rest e hf hs ha = rw (e, back16 (g .flags) hf, back32 (g .ls) hs, back32 (g .la) ha)
-fields-back Bits32 mark most g rest e hf hs ha = rw (e, back32 (g .flags) hf, back32 (g .ls) hs, back32 (g .la) ha)
+fields-back Bits16 mark most rules g rest e hf hs ha = rw (e, back16 (g .flags) hf, back32 (g .ls) hs, back32 (g .la) ha)
+fields-back Bits32 mark most rules g rest e hf hs ha = rw (e, back32 (g .flags) hf, back32 (g .ls) hs, back32 (g .la) ha)
 
 module _ (g : Header) (raws : List RawRecord) (t : HeaderTaken g) where
   abbrev f : Format
@@ -118,7 +118,7 @@ module _ (g : Header) (raws : List RawRecord) (t : HeaderTaken g) where
   header-back : g .ls < 2 ^ 32 → g .la < 2 ^ 32 → length (fileOf g raws) ≤ maxFile → headerOf (fileOf g raws) ≡ header.Read g
   header-back hs ha short =
       headers.fields-by (fileOf g raws) short f (ap formatOf mark-first ∙ t .known) (omega (arith, file-long))
-      ∙ ap header.Read (ap (fieldsOf f) laid ∙ fields-back (f .flags) (f .mark) (f .most) g (recordsInBytes raws) (row .0) flags-fit hs ha)
+      ∙ ap header.Read (ap (fieldsOf f) laid ∙ fields-back (f .flags) (f .mark) (f .most) (f .rules) g (recordsInBytes raws) (row .0) flags-fit hs ha)
 
   calls-back : AllRawSized raws → reading.callsOf (drop (headerWidth (g .mark)) (fileOf g raws)) ≡ record { calls = callsFrom raws; ending = ended }
   unfolding fileOf
@@ -224,12 +224,12 @@ module _ (bytes : List ℕ) (b : Bytes bytes) where
           → m ++ s ∷ r ∷ x ∷ y ∷ u ++ v ≡ m′ ++ s′ ∷ r′ ∷ x′ ∷ y′ ∷ u′ ++ v′
       parts p q r s t u v = rw (p, q, r, s, t, u, v)
 
-  header-again : (width : Flags) (mark most : ℕ) → number16 bytes 0 ≡ mark → livesAt width + 8 ≤ length bytes
-      → let f : Format = record { mark = mark; flags = width; most = most } in
+  header-again : (width : Flags) (mark most rules : ℕ) → number16 bytes 0 ≡ mark → livesAt width + 8 ≤ length bytes
+      → let f : Format = record { mark = mark; flags = width; most = most; rules = rules } in
       headerAs (Found f) (fieldsOf f bytes) ++ drop (livesAt width + 8) bytes ≡ bytes
-  header-again Bits16 mark most e h =
+  header-again Bits16 mark most rules e h =
       ap (λ (front : List ℕ). front ++ drop 13 bytes) (parts (byte bytes 2) (mark-back mark e) (field16 3) (field32 5) (field32 9)) ∙ spanned bytes 0 13 h
-  header-again Bits32 mark most e h =
+  header-again Bits32 mark most rules e h =
       ap (λ (front : List ℕ). front ++ drop 15 bytes) (parts (byte bytes 2) (mark-back mark e) (field32 3) (field32 7) (field32 11)) ∙ spanned bytes 0 15 h
 
 -- a file that was read to its end is the bytes of its records
@@ -280,7 +280,7 @@ module _ (bytes : List ℕ) (b : Bytes bytes) (g : Header) where
       ap (λ (x : Header). headerInBytes x ++ drop (headerWidth (x .mark)) bytes) (sym same)
       ∙ ap (λ (front : List ℕ). front ++ drop (headerWidth (f .mark)) bytes) (sym (header-is (fieldsOf f bytes) (Found f) known))
       ∙ ap (λ (k : ℕ). headerAs (Found f) (fieldsOf f bytes) ++ drop k bytes) (width-is (f .mark) (Found f) known)
-      ∙ header-again bytes b (f .flags) (f .mark) (f .most) (sym mark) l
+      ∙ header-again bytes b (f .flags) (f .mark) (f .most) (f .rules) (sym mark) l
 
   pub file-again : {calls : List Call} → ReadsAs bytes g calls → fileOf g (map rawFor calls) ≡ bytes
   unfolding fileOf
