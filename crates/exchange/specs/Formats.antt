@@ -15,14 +15,18 @@ use Rattle.exchange.specs.declared.header.Lookup.the-variants.{Found, Mi
 abbrev pub hd : Format
 hd = record { mark = 0x4844; flags = Bits16; most = 16; rules = 0 }
 
+-- "the layout and limits of HW"
+abbrev pub wide : (mark rules : ℕ) → Format
+wide mark rules = record { mark = mark; flags = Bits32; most = 32; rules = rules }
+
 abbrev pub hw : Format
-hw = record { mark = 0x4857; flags = Bits32; most = 32; rules = 0 }
+hw = wide 0x4857 0
 
 abbrev pub h5 : Format
-h5 = record { mark = 0x4835; flags = Bits32; most = 32; rules = 1 }
+h5 = wide 0x4835 1
 
 abbrev pub h4 : Format
-h4 = record { mark = 0x4834; flags = Bits32; most = 32; rules = 2 }
+h4 = wide 0x4834 2
 
 unfoldable pub formats : List Format
 formats = hd ∷ hw ∷ h5 ∷ h4 ∷ []

@@ -16,8 +16,8 @@ use Rattle.exchange.specs.declared.header.Format.{Format}
 use Rattle.exchange.specs.declared.header.Header.{Header}
 use Rattle.exchange.specs.declared.header.Lookup.{Lookup}
 use Rattle.exchange.specs.declared.header.Lookup.the-variants.{Found, Missing}
-use Rattle.exchange.specs.Formats.{formats, rowOf, formatOf}
-use Rattle.exchange.specs.Laws.Formats.{format-found, most-known}
+use Rattle.exchange.specs.Formats.{hd, wide, formatOf}
+use Rattle.exchange.specs.Laws.Formats.{format-found, most-known, hd-known}
 use Rattle.traces.specs.Realm as exchange
 use Rattle.traces.specs.Realm.{HeaderPasses}
 use Rattle.realm.specs.declared.header.Realm.{Realm}
@@ -147,40 +147,14 @@ module _ (h : Realm) where
 
 -- ---- the mark too
 
--- "3 to 16" under HD, "3 to 32" under HW, and H5 and H4 "with the .. limits of HW"
+-- "3 to 16" under HD, "3 to 32" under HW, and "the .. limits of HW" under H5 and H4
 module _ (n flags ls la : ℕ) where
   pub hd-refusal : headerRefusal (record { mark = 0x4844; n = n; flags = flags; ls = ls; la = la }) ≡ cond (headerFits 16 n flags ls la) 0 2
-  unfolding headerRefusal formats rowOf
-  hd-refusal = refl
+  hd-refusal = sym (by-lookup _ (Found hd) hd-known)
 
-  pub hw-refusal : headerRefusal (record { mark = 0x4857; n = n; flags = flags; ls = ls; la = la }) ≡ cond (headerFits 32 n flags ls la) 0 2
-  unfolding headerRefusal formats rowOf
-  hw-refusal = refl
-
-  pub h5-refusal : headerRefusal (record { mark = 0x4835; n = n; flags = flags; ls = ls; la = la }) ≡ cond (headerFits 32 n flags ls la) 0 2
-  unfolding headerRefusal formats rowOf
-  h5-refusal = refl
-
-  pub h4-refusal : headerRefusal (record { mark = 0x4834; n = n; flags = flags; ls = ls; la = la }) ≡ cond (headerFits 32 n flags ls la) 0 2
-  unfolding headerRefusal formats rowOf
-  h4-refusal = refl
-
--- "rule sets, named by header marks H5 and H4 .. and keep the old one under HD and HW": each mark's, and so a new realm's
-pub hd-rules : rulesBy (formatOf 0x4844) ≡ 0
-unfolding formats rowOf
-hd-rules = refl
-
-pub hw-rules : rulesBy (formatOf 0x4857) ≡ 0
-unfolding formats rowOf
-hw-rules = refl
-
-pub h5-rules : rulesBy (formatOf 0x4835) ≡ 1
-unfolding formats rowOf
-h5-rules = refl
-
-pub h4-rules : rulesBy (formatOf 0x4834) ≡ 2
-unfolding formats rowOf
-h4-rules = refl
+  pub wide-refusal : (mark rules : ℕ) → formatOf mark ≡ Found (wide mark rules)
+      → headerRefusal (record { mark = mark; n = n; flags = flags; ls = ls; la = la }) ≡ cond (headerFits 32 n flags ls la) 0 2
+  wide-refusal mark rules e = sym (by-lookup _ (Found (wide mark rules)) e)
 
 -- no mark names another: a new realm names a rule set
 pub new-known : (mark : ℕ) → rulesBy (formatOf mark) < 3

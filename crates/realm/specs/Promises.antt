@@ -2,11 +2,13 @@
 -- refusal 1 or 2), Input (refusals 4, 5 and 6 of a step), Tables and Check (what refusal 10 looks at).
 -- Assumes nothing.
 use Prim.Native.Nat.{ℕ, _^_, _<_}
-use mathlib.Core.Path.{_≡_}
+use mathlib.Core.Path.{_≡_, sym, ap, _∙_}
 use mathlib.Core.Bool.{true}
 use mathlib.Core.Logic.{_↔_}
 use lib.ListN.{length}
+use Rattle.exchange.specs.declared.header.Format.{Format}
 use Rattle.exchange.specs.declared.header.Header.{Header}
+use Rattle.exchange.specs.declared.header.Lookup.the-variants.{Found}
 use Rattle.exchange.specs.Formats.{formatOf}
 use Rattle.realm.specs.declared.header.Opening.the-variants.{Open}
 use Rattle.realm.specs.declared.header.Realm.{Realm}
@@ -19,10 +21,14 @@ use Rattle.realm.specs.New as new
 use Rattle.realm.specs.New.{Lends}
 use Rattle.realm.specs.Opening.{headerRefusal, rulesBy, openingOf}
 use Rattle.realm.specs.Tables.{Tables, Together}
--- 2 reads "3 to 16" under HD and "3 to 32" under HW, H5 and H4.
-pub use Rattle.realm.specs.Header.{hd-refusal, hw-refusal, h5-refusal, h4-refusal}
--- The rule set that each mark names.
-pub use Rattle.realm.specs.Header.{hd-rules, hw-rules, h5-rules, h4-rules}
+-- 2 reads "3 to 16" under HD and "3 to 32" under each mark of HW's layout.
+pub use Rattle.realm.specs.Header.{hd-refusal, wide-refusal}
+-- HW, H5 and H4 are such marks: the rows of the table, with the rule set that each names.
+pub use Rattle.exchange.specs.Laws.Formats.{hd-known, hw-known, h5-known, h4-known}
+
+-- A new realm has the rule set of its mark.
+pub opened-rules : (g : Header) (f : Format) (h : Realm) → formatOf (g .mark) ≡ Found f → openingOf g ≡ Open h → h .rules ≡ f .rules
+opened-rules g f h e o = ap (λ (x : Realm). x .rules) (sym (new.opened-is g h o .1)) ∙ ap rulesBy e
 
 -- A header of the file's widths opens a realm exactly where its mark is known, n is within the mark's limit, and the exchange's
 -- `HeaderPasses` holds of its values.

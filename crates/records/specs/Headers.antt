@@ -16,8 +16,8 @@ use Rattle.exchange.specs.declared.header.Format.{Format}
 use Rattle.exchange.specs.declared.header.Header.{Header}
 use Rattle.exchange.specs.declared.header.Lookup.{Lookup}
 use Rattle.exchange.specs.declared.header.Lookup.the-variants.{Found, Missing}
-use Rattle.exchange.specs.Formats.{hd, hw, formats, rowOf, formatOf, HeaderSized}
-use Rattle.exchange.specs.Laws.Formats.{format-found}
+use Rattle.exchange.specs.Formats.{hd, wide, formatOf, HeaderSized}
+use Rattle.exchange.specs.Laws.Formats.{format-found, hd-known}
 use Rattle.records.specs.declared.header.Heading.{Heading}
 use Rattle.records.specs.declared.header.Heading.the-variants.{Read, Refused}
 use Rattle.records.specs.Fields.{Bytes, byte, number16, number32, small16, small32}
@@ -186,11 +186,9 @@ module _ (bytes : List ℕ) (short : length bytes ≤ maxFile) where
   -- "HD, n (1 byte), flags (2), Ls (4), La (4)"
   pub hd-fields : number16 bytes 0 ≡ 0x4844 → 13 ≤ length bytes
       → headerOf bytes ≡ Read (record { mark = 0x4844; n = byte bytes 2; flags = number16 bytes 3; ls = number32 bytes 5; la = number32 bytes 9 })
-  unfolding formats rowOf
-  hd-fields e h = fields-by hd (ap formatOf e) h
+  hd-fields e h = fields-by hd (ap formatOf e ∙ hd-known) h
 
-  -- "laid out as HD but with 32 bits of flags"
-  pub hw-fields : number16 bytes 0 ≡ 0x4857 → 15 ≤ length bytes
-      → headerOf bytes ≡ Read (record { mark = 0x4857; n = byte bytes 2; flags = number32 bytes 3; ls = number32 bytes 7; la = number32 bytes 11 })
-  unfolding formats rowOf
-  hw-fields e h = fields-by hw (ap formatOf e) h
+  -- "laid out as HD but with 32 bits of flags", and so each mark "with the layout .. of HW"
+  pub wide-fields : (mark rules : ℕ) → formatOf mark ≡ Found (wide mark rules) → number16 bytes 0 ≡ mark → 15 ≤ length bytes
+      → headerOf bytes ≡ Read (record { mark = mark; n = byte bytes 2; flags = number32 bytes 3; ls = number32 bytes 7; la = number32 bytes 11 })
+  wide-fields mark rules k e h = fields-by (wide mark rules) (ap formatOf e ∙ k) h

@@ -14,7 +14,7 @@ use Rattle.exchange.specs.declared.header.Format.{Format}
 use Rattle.exchange.specs.declared.header.Header.{Header}
 use Rattle.exchange.specs.declared.header.Lookup.the-variants.{Found, Missing}
 use Rattle.exchange.specs.Formats.{hd, formats, rowOf, formatOf}
-use Rattle.exchange.specs.Laws.Formats.{format-found}
+use Rattle.exchange.specs.Laws.Formats.{format-found, hd-known}
 use Rattle.realm.specs.Opening.{headerFits, rulesBy, newRealm, openingBy, openingOf}
 use Rattle.realm.specs.Promises.{hd-refusal}
 use Rattle.records.specs.declared.header.Heading.{Heading}
@@ -60,11 +60,6 @@ hd-listed bytes short mark whole =
     ap (headerLines bytes) (hd-read bytes short mark whole)
     ∙ ap (λ (k : ℕ). openingLines 0x4844 bytes (openingBy k (rulesBy (formatOf 0x4844)) (headerAt bytes))) (hd-refusal (byte bytes 2) (number16 bytes 3) (number32 bytes 5) (number32 bytes 9))
     ∙ by-fit (headerFits 16 (byte bytes 2) (number16 bytes 3) (number32 bytes 5) (number32 bytes 9)) bytes
-
--- HD is in the table
-hd-known : formatOf 0x4844 ≡ Found hd
-unfolding formats rowOf
-hd-known = refl
 
 missing : {A : Type 0} {f : Format} → Missing ≡ Found f → A
 missing e = let z : _≡_ {A = ℕ} 0 1 = cc in absurd (omega arith)

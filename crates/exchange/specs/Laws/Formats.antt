@@ -1,4 +1,4 @@
--- The table of header marks by its laws: a search row by row, and what every row has.
+-- The table of header marks by its laws: a search row by row, what every row has, and the row of each mark.
 -- Assumes nothing.
 use Prim.Native.Nat.{ℕ, suc, _^_, _<_, _≤_}
 use mathlib.Core.Path.{_≡_, refl, sym, ap, subst, _∙_}
@@ -85,3 +85,21 @@ format-found mark f e =
 -- so a mark that is known allows at most 32 principals
 pub most-known : (mark : ℕ) (f : Format) → formatOf mark ≡ Found f → f .most ≤ 32
 most-known mark f e = omega (arith, format-found mark f e .1 .flag-each, bits-most (f .flags))
+
+-- ---- the marks
+
+pub hd-known : formatOf 0x4844 ≡ Found hd
+unfolding formats rowOf
+hd-known = refl
+
+pub hw-known : formatOf 0x4857 ≡ Found hw
+unfolding formats rowOf
+hw-known = refl
+
+pub h5-known : formatOf 0x4835 ≡ Found h5
+unfolding formats rowOf
+h5-known = refl
+
+pub h4-known : formatOf 0x4834 ≡ Found h4
+unfolding formats rowOf
+h4-known = refl
