@@ -35,7 +35,7 @@ pub enum Sends {
         ts: u32,
         n: u16,
     },
-    // term x is passed on with the authenticator
+    // the authenticator, under H5 and H4 with term x
     Presented {
         form: Form,
         a: u16,

@@ -11,5 +11,10 @@ use Rattle.exchange.specs.declared.form.Form.the-variants.{Parallel, Ker
 unfoldable pub forms : List Form
 forms = Parallel ∷ Kerberos5 ∷ Kerberos4 ∷ []
 
+-- how many rule sets there are
+abbrev pub RULE_SETS : ℕ
+RULE_SETS = 3
+
+-- a number past the table reads as the first form; that 10 keeps it from being met is said of the realm
 abbrev pub formOf : (rules : ℕ) → Form
 formOf rules = getD forms rules Parallel

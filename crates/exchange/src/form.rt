@@ -10,7 +10,7 @@ pub enum Form {
     Kerberos4,
 }
 
-// How many there are.
+// How many rule sets there are; a number from here on names none.
 pub const RULE_SETS: u8 = 3;
 
 const FORMS: [Form; 3] = [Form::Parallel, Form::Kerberos5, Form::Kerberos4];

@@ -55,7 +55,7 @@ abbrev pub Replies : List ℕ → (m : ℕ) → Reply → Option (ℕ × (ℕ ×
 Replies terms m replies.Other o = o ≡ none
 Replies terms m (replies.Is k b ts a rest) o = (o ≡ some (a, (k, (b, (ts, messageAt terms rest))))) × Present terms rest × (rest < m)
 
--- the same values, and x is the number of a term that stands for X: one that is present, being at most the last that may stand there
+-- the same values, and x is the number of a term that stands for X, at most `last`: so it is present where `last` is
 abbrev pub Grants : List ℕ → (last : ℕ) → Grant → Granted → Type 0
 Grants terms last grants.Other g = g ≡ Other
 Grants terms last (grants.Is k b ts n a x) g = (g ≡ Is k b ts n a (messageAt terms x)) × (x ≤ last)

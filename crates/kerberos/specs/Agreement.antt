@@ -1,6 +1,6 @@
--- Demand 3 as a statement about a history, in each form: what is promised at each acceptance, a field for each clause. Points are
--- points of the list of calls; what is so at a point is read from the calls and answers up to it. "Ever" is at any point, before
--- the acceptance or after it.
+-- Demand 3 as a statement about a history, in each form: what is promised at each acceptance, a field for each clause; and the secrecy
+-- of an unleaked key, accepted with or not. Points are points of the list of calls; what is so at a point is read from the calls and
+-- answers up to it. "Ever" is at any point, before the acceptance or after it.
 -- Assumes nothing.
 use Prim.Native.Nat.{ℕ, _+_, _<_, _≤_}
 use mathlib.Core.Path.{_≡_}
@@ -51,8 +51,8 @@ module _ (f : Form) where
       → ¬ (Leaked (log acc) k)
       → Agreement R h acc A B r k ts ta
 
-  -- "the secrecy of an unleaked key" (02, change 6): the intruder cannot derive a key that the server issued to good A and B and that
-  -- has not leaked, accepted with or not
+  -- "the secrecy of an unleaked key" (02, change 6): the intruder cannot derive a key that the server issued to good A and B, at any
+  -- point at which it has not leaked, accepted with or not
   abbrev pub Secrecy : Realm → History → Type 0
   Secrecy R h =
       (A B : ℕ)
@@ -60,5 +60,7 @@ module _ (f : Form) where
       → Good R B
       → (k ts n : ℕ)
       → Did (log h) (Issue k A B ts n)
-      → ¬ (Leaked (log h) k)
-      → ¬ (Derivable R (log h) (key (session k)))
+      → (p : History)
+      → p ⊑ h
+      → ¬ (Leaked (log p) k)
+      → ¬ (Derivable R (log p) (key (session k)))

@@ -1,7 +1,7 @@
 -- The messages of the Kerberos exchange by their names (document 01, "Steps"; 02, change 6; document 003, sections 3.6 to 3.8).
--- Each is a plain message; numbers stand for the principal, key, time or nonce of that number. The three forms have the same
--- parts and differ in how they are put together: both are sent apart, under HD and HW; the ticket is carried by the initiator beside
--- the server's reply, under H5, or inside it, under H4. So they differ in what step 3 sends, and what step 4 takes and sends.
+-- Each is a plain message; numbers stand for the principal, key, time or nonce of that number. The server's reply and the ticket are
+-- sent apart under HD and HW; the initiator carries the ticket beside the reply under H5, inside it under H4. So the forms differ in
+-- what step 3 sends, and what step 4 takes and sends.
 -- Assumes nothing.
 use Prim.Native.Nat.{ℕ}
 use mathlib.Core.List.{List, [], _∷_}
@@ -16,7 +16,7 @@ abbrev pub request : (a b n : ℕ) → Message
 request a b n = pair (principal a) (pair (principal b) (nonce n))
 
 -- "{K, b, Ts, N} under a's key", or "{K, b, Ts, N, ticket}": the server's reply for the initiator ("the panel's part"), the rest
--- being N, or N and the ticket
+-- being N, or N and what stands in the ticket's place
 abbrev pub reply : (k b ts : ℕ) → (rest : Message) → (a : ℕ) → Message
 reply k b ts rest a = encrypted (pair (key (session k)) (pair (principal b) (pair (time ts) rest))) (longTerm a)
 

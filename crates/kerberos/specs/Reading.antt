@@ -34,8 +34,8 @@ did3 f r a b ts n = (Issue r a b ts n, issue f r a b ts n)
 abbrev read3 : Form → (r now : ℕ) → Message → Act
 read3 f r now m = did3 f r (numberOf (at 0 m)) (numberOf (at 1 m)) now (numberOf (rest 2 m))
 
--- what step 4 took, apart: the server's reply, and "any term X". Under HD and HW there is no X, and what stands for it is not
--- looked at.
+-- what step 4 took, apart: the server's reply, and "any term X". Under HD and HW there is no X: m stands for it, and is in nothing
+-- that is sent.
 abbrev pub parts : Form → Message → Message × Message
 parts Parallel m = (m, m)
 parts Kerberos5 m = (leftOf m, rightOf m)
@@ -89,7 +89,8 @@ abbrev pub rules : Form → RuleSet
 rules f =
     record { Event = Event; nothing = Nothing; clock = clock; Row = Row; rows = λ l. map stored (runs l); entries = cache; actOf = actOf f; Takes = Takes f }
 
--- "Add two rule sets, named by header marks H5 and H4 .. and keep the old one under HD and HW": what a realm's header names
+-- "Add two rule sets, named by header marks H5 and H4 .. and keep the old one under HD and HW": the one that a realm's header names by
+-- its number
 abbrev pub setOf : Realm → RuleSet
 setOf R = rules (formOf (R .rules))
 

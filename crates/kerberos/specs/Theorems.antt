@@ -1,6 +1,6 @@
 -- What this crate promises. The definitions that it is stated in, in reading order: Messages (with the forms), Log and Rules (what
 -- the steps mean), Reading and Words (how a list of calls with its answers is read), Agreement (the claims), Entries (who fills the
--- replay cache). Examples shows that the claims are not empty and that their conditions are needed; proofs are in Laws, and what is
+-- replay cache). Examples shows that demand 3 is not empty in any form and, in the parallel one, that its conditions are needed; proofs are in Laws, and what is
 -- argued for each form singly is in Laws/Forms.
 -- Assumes nothing.
 use Prim.Native.Nat.{ℕ}

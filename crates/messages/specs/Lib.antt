@@ -7,3 +7,4 @@ pub mod Plan
 pub mod Layers
 pub mod Planning
 pub mod Lent
+pub mod Parts

@@ -17,6 +17,7 @@ use Rattle.exchange.specs.declared.header.Header.{Header}
 use Rattle.exchange.specs.declared.header.Lookup.{Lookup}
 use Rattle.exchange.specs.declared.header.Lookup.the-variants.{Found, Missing}
 use Rattle.exchange.specs.Formats.{hd, wide, formatOf}
+use Rattle.exchange.specs.Forms.{RULE_SETS}
 use Rattle.exchange.specs.Laws.Formats.{format-found, most-known, hd-known}
 use Rattle.traces.specs.Realm as exchange
 use Rattle.traces.specs.Realm.{HeaderPasses}
@@ -135,15 +136,15 @@ module _ (most n flags ls la : ℕ) where
 -- ---- a realm that is lent
 
 module _ (h : Realm) where
-  pub realm-is : h .ls < 2 ^ 32 → h .la < 2 ^ 32 → realmFits h ≡ true → HeaderPasses (header h) × (h .rules < 3)
+  pub realm-is : h .ls < 2 ^ 32 → h .la < 2 ^ 32 → realmFits h ≡ true → HeaderPasses (header h) × (h .rules < RULE_SETS)
   unfolding realmFits
   realm-is hs ha e =
-      let p = and-eq-true-iff (headerFits 32 (h .n) (h .flags) (h .ls) (h .la)) (ltb (h .rules) 3) .0 e in
-      (fits-passes 32 (h .n) (h .flags) (h .ls) (h .la) (omega arith) hs ha (p .0), ltb-true (h .rules) 3 (p .1))
+      let p = and-eq-true-iff (headerFits 32 (h .n) (h .flags) (h .ls) (h .la)) (ltb (h .rules) RULE_SETS) .0 e in
+      (fits-passes 32 (h .n) (h .flags) (h .ls) (h .la) (omega arith) hs ha (p .0), ltb-true (h .rules) RULE_SETS (p .1))
 
-  pub is-realm : HeaderPasses (header h) → h .rules < 3 → realmFits h ≡ true
+  pub is-realm : HeaderPasses (header h) → h .rules < RULE_SETS → realmFits h ≡ true
   unfolding realmFits
-  is-realm f r = rw (passes-fits 32 (h .n) (h .flags) (h .ls) (h .la) (f .most) f, lt-ltb (h .rules) 3 r)
+  is-realm f r = rw (passes-fits 32 (h .n) (h .flags) (h .ls) (h .la) (f .most) f, lt-ltb (h .rules) RULE_SETS r)
 
 -- ---- the mark too
 
@@ -157,10 +158,10 @@ module _ (n flags ls la : ℕ) where
   wide-refusal mark rules e = sym (by-lookup _ (Found (wide mark rules)) e)
 
 -- no mark names another: a new realm names a rule set
-pub new-known : (mark : ℕ) → rulesBy (formatOf mark) < 3
+pub new-known : (mark : ℕ) → rulesBy (formatOf mark) < RULE_SETS
 new-known mark = by (formatOf mark) refl
   where
-    by : (l : Lookup) → formatOf mark ≡ l → rulesBy l < 3
+    by : (l : Lookup) → formatOf mark ≡ l → rulesBy l < RULE_SETS
     by Missing q = omega arith
     by (Found f) q = format-found mark f q .1 .rules-known
 

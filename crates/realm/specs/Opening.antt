@@ -1,7 +1,7 @@
 -- Opening a realm (document 01, "The hall and its clock"), or refusal 1 or 2.
 -- Assumes nothing.
 use Prim.Native.Nat.{ℕ, zero, suc, _/_, _^_, _<_, _≤_}
-use mathlib.Core.Path.{_≡_, refl, sym, ap, _∙_}
+use mathlib.Core.Path.{_≡_, refl, sym, ap}
 use borrow.Author.Tests.{le-leb, lt-leb}
 use mathlib.Core.Bool.{Bool, false, not, _&&_, cond}
 use lib.Dec.{ltb, leb, eqb}
@@ -11,6 +11,7 @@ use Rattle.exchange.specs.declared.header.Header.{Header}
 use Rattle.exchange.specs.declared.header.Lookup.{Lookup}
 use Rattle.exchange.specs.declared.header.Lookup.the-variants.{Found, Missing}
 use Rattle.exchange.specs.Formats.{formatOf}
+use Rattle.exchange.specs.Forms.{RULE_SETS}
 use Rattle.traces.specs.Realm as exchange
 use Rattle.realm.specs.declared.header.Opening.{Opening}
 use Rattle.realm.specs.declared.header.Opening.the-variants.{Open, Refused}
@@ -27,9 +28,9 @@ headerFits most n flags ls la =
 
 -- what 10 asks of a realm: not "a header value as in 2", n being 3 to 32 "in every hall", and not "naming no such set"
 unfoldable pub realmFits : Realm → Bool
-realmFits h = headerFits 32 (h .n) (h .flags) (h .ls) (h .la) && ltb (h .rules) 3
+realmFits h = headerFits 32 (h .n) (h .flags) (h .ls) (h .la) && ltb (h .rules) RULE_SETS
 
--- 0, or the number of the refusal: 1 "accepts either mark", then 2 reads the mark's limit
+-- 0, or the number of the refusal: 1 for a mark that is not known, then 2, which reads the mark's limit
 abbrev pub limitRefusal : (most : ℕ) → Header → ℕ
 limitRefusal most g = cond (headerFits most (g .n) (g .flags) (g .ls) (g .la)) 0 2
 

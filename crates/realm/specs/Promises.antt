@@ -23,8 +23,9 @@ use Rattle.realm.specs.Opening.{headerRefusal, rulesBy, openingOf}
 use Rattle.realm.specs.Tables.{Tables, Together}
 -- 2 reads "3 to 16" under HD and "3 to 32" under each mark of HW's layout.
 pub use Rattle.realm.specs.Header.{hd-refusal, wide-refusal}
--- HW, H5 and H4 are such marks: the rows of the table, with the rule set that each names.
+-- HW, H5 and H4 are such marks: the rows of the table, with the rule set that each names, and its form.
 pub use Rattle.exchange.specs.Laws.Formats.{hd-known, hw-known, h5-known, h4-known}
+pub use Rattle.exchange.specs.Laws.Forms.{mark-forms}
 
 -- A new realm has the rule set of its mark.
 pub opened-rules : (g : Header) (f : Format) (h : Realm) → formatOf (g .mark) ≡ Found f → openingOf g ≡ Open h → h .rules ≡ f .rules

@@ -11,6 +11,7 @@ use Rattle.terms.specs.Valid.{Valid}
 use Rattle.runs.specs.Lent.{RowsHold}
 use Rattle.replay.specs.declared.entry.Entry.{Entry}
 use Rattle.replay.specs.Cache.{empty}
+use Rattle.exchange.specs.Forms.{RULE_SETS}
 use Rattle.traces.specs.Realm.{HeaderPasses}
 use Rattle.realm.specs.declared.header.Realm.{Realm}
 use Rattle.realm.specs.Opening.{header}
@@ -34,7 +35,7 @@ pub record Together (t : Tables) : Type 0 where
   -- not "a header value as in 2"
   pub header-fits : HeaderPasses (header (t .realm))
   -- not "tables naming no such set"
-  pub rules-known : t .realm .rules < 3
+  pub rules-known : t .realm .rules < RULE_SETS
   -- "Times are 32 bits"
   pub clock-fits : t .realm .clock < 2 ^ 32
   -- not "a term that breaks the term rules, 5 or 6 or repeats", and the full number of places

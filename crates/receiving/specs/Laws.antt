@@ -3,7 +3,7 @@
 use Prim.Native.Nat.{ℕ, _<_, _≤_}
 use mathlib.Core.Bool.{true, false, not, _&&_}
 use mathlib.Core.List.{List}
-use mathlib.Core.Path.{_≡_, sym, ap, _∙_}
+use mathlib.Core.Path.{_≡_, sym, ap}
 use native.Mathlib.Omega.{arith}
 use lib.Dec.{eqb}
 use borrow.Author.Tests.{lt-ltb, le-ltb, eq-eqb, ne-eqb}
@@ -30,7 +30,7 @@ use Rattle.realm.specs.declared.header.Realm.{Realm}
 use Rattle.decisions.specs.declared.Verdict.the-variants.{Takes, Refused}
 use Rattle.conditions.specs.Conditions.{derivableAt, ticketLives, admission}
 use Rattle.decisions.specs.Laws.Forms.{grant-key}
-use Rattle.decisions.specs.Laws.Parts.{number-here}
+use Rattle.messages.specs.Parts.{number-here}
 use Rattle.decisions.specs.Decision.{need, issues, authenticates, takes, finishes}
 
 -- ---- step 3

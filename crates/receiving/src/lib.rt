@@ -62,7 +62,7 @@ pub fn issue(h: Realm, terms: &[u64], m: u16) -> Pending
     Pending::Asked(issued(h.clock, form, r, initiator, responder, n))
 }
 
-// Step 4: the initiator takes the server's reply to its own request, and a term that it does not open.
+// Step 4: the initiator takes the server's reply to its own request and, by the form, a term that it does not open.
 pub fn authenticate(h: Realm, terms: &[u64], run: u8, own: Row, m: u16) -> Pending
     requires { ⌜ Valid (h .n) (now terms) (h .terms) × (m < h .terms) ⌝ }
     ensures { λ r. ⌜ ((ws : List ℕ) → settled r (derivableAt h (now (terms .entry)) ws m) ≡ authenticates h (now (terms .entry)) ws run own m) ⌝ }

@@ -1,5 +1,5 @@
--- The header of a file: "HD, n (1 byte), flags (2), Ls (4), La (4)", and HW "laid out as HD but with 32 bits of flags". Refusal 1:
--- "file over 65,536 bytes, or without a whole HD record first (the empty file too)"; it "accepts either mark".
+-- The header of a file: "HD, n (1 byte), flags (2), Ls (4), La (4)", and HW, H5 and H4 "laid out as HD but with 32 bits of flags".
+-- Refusal 1: "file over 65,536 bytes, or without a whole HD record first (the empty file too)", or that of another mark.
 -- Assumes nothing.
 use mathlib.Core.Path.{_≡_, refl, sym, ap, subst, _∙_}
 use mathlib.Core.Bool.{cond}

@@ -27,8 +27,6 @@ use Rattle.exchange.specs.declared.run.Role.the-variants.{Initiator, Responder,
 use Rattle.exchange.specs.declared.run.Row.{Row}
 use Rattle.exchange.specs.declared.run.Stage.{Stage}
 use Rattle.exchange.specs.declared.run.Stage.the-variants.{Opened, Authenticated}
-use Rattle.exchange.specs.declared.form.Form.{Form}
-use Rattle.exchange.specs.declared.form.Form.the-variants.{Parallel, Kerberos5, Kerberos4}
 use Rattle.exchange.specs.Needs.{isAt}
 use Rattle.traces.specs.Lists.{_∈_, here, there}
 use Rattle.traces.specs.Conditions.{Delivers, Apart}
@@ -40,12 +38,13 @@ use Rattle.kerberos.specs.Log.{Initiate, Respond, Issue, Authenticate, Accept, 
 use Rattle.kerberos.specs.Log.{clock, runs, run, next, cache, stored}
 use Rattle.kerberos.specs.Messages.{request, issue, grant, presented, ticket, authenticator, confirmation}
 use Rattle.kerberos.specs.Reading.{parts, setOf}
+use Rattle.kerberos.specs.Laws.Forms.{regrant}
 use Rattle.kerberos.specs.Rules.{Takes, takes1, takes2, takes3, takes4, takes5, takes6, takes7, takes8, takes9, takes10}
 use Rattle.realm.specs.Opening.{header}
 use Rattle.realm.specs.Tables.{Tables, Together}
 use Rattle.decisions.specs.declared.Effect.{Effect}
 use Rattle.decisions.specs.Effects.{messagesOf}
-use Rattle.decisions.specs.Laws.Parts.{part-stands, carried}
+use Rattle.decisions.specs.Laws.Forms.{x-stands}
 use Rattle.decisions.specs.Laws.Took.{formAt, rowAt, Meets, Brings, Admits, Took, took1, took2, took3, took4, took5, took6, took7, took8, took9, took10}
 use Rattle.simulation.specs.Rules.{next-is, cache-length}
 use Rattle.simulation.specs.Values.{logged, valuesOf}
@@ -87,13 +86,6 @@ meets {role = role} {stage = stage} s h = record { below = s .below; at = ap (λ
 
 -- ---- the acts, with the run's values as its row has them, and the clock and the number of the next run as the tables have them
 
--- the X that is read of a grant is as good as any that makes it
-regrant : (f : Form) (m : Message) (k b ts n a : ℕ) (x : Message) → m ≡ grant f k b ts n a x
-    → (m ≡ grant f k b ts n a (parts f m .1)) × ((a′ ta : ℕ) → presented f a′ ta k (parts f m .1) ≡ presented f a′ ta k x)
-regrant Parallel m k b ts n a x e = (e, λ a′ ta. refl)
-regrant Kerberos5 m k b ts n a x e = rw e (refl, λ a′ ta. refl)
-regrant Kerberos4 m k b ts n a x e = rw e (refl, λ a′ ta. refl)
-
 module _ {t : Tables} where
   same-brings : {m : ℕ} {x y : Message} → messageAt (t .terms) m ≡ x → messageAt (t .terms) m ≡ y → Brings t m x → Brings t m y
   same-brings e f b = subst (Brings t _) (sym e ∙ f) b
@@ -115,7 +107,7 @@ module _ {t : Tables} where
   by4 {r} {m} {k} {ts} {n} own now x fits e c w d q i =
       let g = regrant (formAt t) (messageAt (t .terms) m) k (own .b) ts n (own .a) x (d .is) in
       let y = parts (formAt t) (messageAt (t .terms) m) .1 in
-      let s = part-stands (fits .terms-hold .terms) (carried (formAt t) (messageAt (t .terms) m) k (own .b) ts n (own .a) y (g .0) refl) m (d .below) refl in
+      let s = x-stands (fits .terms-hold) (formAt t) m (d .below) k (own .b) ts n (own .a) y (g .0) refl in
       let b : Brings t m (grant (formAt t) k (own .b) ts n (own .a) (messageAt (t .terms) (s .place))) = rw (s .means) (same-brings (d .is) (g .0) d) in
       rw (← e, ← c)
       (record {

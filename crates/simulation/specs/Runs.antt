@@ -2,11 +2,11 @@
 -- its rows are those of the log's runs.
 -- Assumes nothing.
 use Prim.Native.Nat.{ℕ, zero, suc, _+_, _<_, _≤_}
-use mathlib.Core.Path.{_≡_, refl, sym, ap, ap₂, _∙_, subst}
+use mathlib.Core.Path.{_≡_, refl, sym, ap, ap₂, _∙_}
 use mathlib.Core.List.{List, [], _∷_, _++_, map, map-append}
 use native.Mathlib.Numerals.{add-one}
 use native.Mathlib.Omega.{arith}
-use lib.ListN.{length, set, getD}
+use lib.ListN.{length, set}
 use Rattle.terms.specs.Message.{Message, session, key}
 use Rattle.terms.specs.Number.{wordIn, word-at, termsOf, terms-length, terms-agree, terms-list}
 use Rattle.terms.specs.Valid.{Valid}
@@ -25,7 +25,7 @@ use Rattle.decisions.specs.declared.Change.the-variants as changes
 use Rattle.effects.specs.Row.{changed, runCount}
 use Rattle.simulation.specs.Mirrors.{RowMirrors}
 use Rattle.decisions.specs.Laws.Fits.{RowFits, RowReady}
-use Rattle.decisions.specs.Laws.Parts.{Part, part-stands}
+use Rattle.messages.specs.Parts.{Part, part-stands}
 
 -- ---- one row
 

@@ -15,7 +15,7 @@ use Rattle.exchange.specs.declared.header.Header.{Header}
 use Rattle.exchange.specs.declared.header.Lookup.the-variants.{Found, Missing}
 use Rattle.exchange.specs.Formats.{hd, formats, rowOf, formatOf}
 use Rattle.exchange.specs.Laws.Formats.{format-found, hd-known}
-use Rattle.realm.specs.Opening.{headerFits, rulesBy, newRealm, openingBy, openingOf}
+use Rattle.realm.specs.Opening.{headerFits, rulesBy, newUnder, openingBy, openingOf}
 use Rattle.realm.specs.Promises.{hd-refusal}
 use Rattle.records.specs.declared.header.Heading.{Heading}
 use Rattle.records.specs.declared.header.Heading.the-variants.{Refused}
@@ -36,7 +36,7 @@ headerAt bytes = record { mark = 0x4844; n = byte bytes 2; flags = number16 byte
 
 -- its listing, behind refusal 1
 abbrev whole01 : (fits : Bool) → List ℕ → List ℕ
-whole01 fits bytes = cond fits (ascii "0 HD ok\n" ++ linesOf 1 (newTables (newRealm (headerAt bytes))) (callsOf (drop 13 bytes))) (fileLine 0 2)
+whole01 fits bytes = cond fits (ascii "0 HD ok\n" ++ linesOf 1 (newTables (newUnder 0 (headerAt bytes))) (callsOf (drop 13 bytes))) (fileLine 0 2)
 
 -- "file over 65,536 bytes, or without a whole HD record first (the empty file too)"; "n outside 3 to 16, a flag on party 0 or at n and
 -- above, or a life of 0"

@@ -59,7 +59,7 @@ abbrev pub openingLines : (mark : ℕ) → List ℕ → Opening → List ℕ
 openingLines mark bytes (opening.Refused refusal) = fileLine 0 refusal
 openingLines mark bytes (opening.Open h) = walkLines h mark bytes
 
--- "1": "file over 65,536 bytes, or without a whole HD record first", or HW
+-- "1": "file over 65,536 bytes, or without a whole HD record first", or that of another mark
 abbrev pub headerLines : List ℕ → Heading → List ℕ
 headerLines bytes (header.Refused refusal) = fileLine 0 refusal
 headerLines bytes (header.Read g) = openingLines (g .mark) bytes (openingOf g)

@@ -18,7 +18,7 @@ abbrev pub flagsInBytes : Flags → ℕ → List ℕ
 flagsInBytes Bits16 flags = bytes16 flags
 flagsInBytes Bits32 flags = bytes32 flags
 
--- "HD, n (1 byte), flags (2), Ls (4), La (4)", and HW "laid out as HD"; a mark that is not known has no header
+-- "HD, n (1 byte), flags (2), Ls (4), La (4)", and the others "laid out as HD but with 32 bits of flags"; a mark that is not known has no header
 abbrev pub frontInBytes : Flags → Header → List ℕ
 frontInBytes width g = bytes16 (g .mark) ++ g .n ∷ flagsInBytes width (g .flags)
 

@@ -43,7 +43,7 @@ use Rattle.decisions.specs.declared.Verdict.the-variants.{Takes, Refused
 use Rattle.decisions.specs.Effects.{issuing, authenticating, accepting, finishing, messagesOf}
 use Rattle.decisions.specs.Decision.{need, onRequest, issues, onGrant, authenticates, onDelivery, takes, onConfirmation, finishes}
 use Rattle.decisions.specs.Decision.{opensRun, ticks, queries, stepOf, decided, roomed, decision}
-use Rattle.decisions.specs.Laws.Parts.{number-here}
+use Rattle.messages.specs.Parts.{number-here}
 use Rattle.decisions.specs.Laws.Took.{rowAt, formAt, Meets, Brings, PassesOn, Timely, Admits, Took, took1, took2, took3, took4, took5, took6, took7, took8, took9, took10}
 
 -- ---- conditions that are met

@@ -49,7 +49,8 @@ use Rattle.decisions.specs.Decision.{opensRun, ticks, queries, stepOf, d
 use Rattle.realm.specs.Tables.{Tables, Together}
 use Rattle.realm.specs.Fields.{callOf, cleared, call-cleared, Range, in-range}
 use Rattle.kerberos.specs.Reading.{parts}
-use Rattle.decisions.specs.Laws.Parts.{part-stands, number-here, carried}
+use Rattle.messages.specs.Parts.{number-here}
+use Rattle.decisions.specs.Laws.Forms.{x-stands}
 use Rattle.decisions.specs.Laws.Took.{rowAt, formAt, Meets, Brings, PassesOn, Admits, TookAs, took-as, took1, took2, took3, took4, took5, took6, took7, took8, took9, took10}
 
 -- ---- what a verdict says
@@ -119,7 +120,7 @@ module _ (t : Tables) (fits : Together t) where
   passes-on : (m : ℕ) → m < t .realm .terms → (k b ts n a : ℕ) (x : Message) → messageAt (t .terms) m ≡ grant (formAt t) k b ts n a x
       → x ≡ parts (formAt t) (messageAt (t .terms) m) .1 → (messageAt (t .terms) (numberOf x) ≡ x) × PassesOn t m (numberOf x)
   passes-on m l k b ts n a x e is =
-      let s = part-stands (fits .terms-hold .terms) (carried (formAt t) (messageAt (t .terms) m) k b ts n a x e is) m l refl in
+      let s = x-stands (fits .terms-hold) (formAt t) m l k b ts n a x e is in
       let below : s .place < t .realm .terms = omega (arith, s .by, l) in
       let q : numberOf x ≡ s .place = ap numberOf (sym (s .means)) ∙ number-here (fits .terms-hold) (s .place) below in
       let means = ap (messageAt (t .terms)) q ∙ s .means in

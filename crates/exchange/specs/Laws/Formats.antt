@@ -13,7 +13,8 @@ use Rattle.exchange.specs.declared.header.Flags.{Flags}
 use Rattle.exchange.specs.declared.header.Flags.the-variants.{Bits16, Bits32}
 use Rattle.exchange.specs.declared.header.Format.{Format}
 use Rattle.exchange.specs.declared.header.Lookup.the-variants.{Found, Missing}
-use Rattle.exchange.specs.Formats.{hd, hw, h5, h4, formats, rowOf, formatOf}
+use Rattle.exchange.specs.Formats.{hd, wide, hw, h5, h4, formats, rowOf, formatOf}
+use Rattle.exchange.specs.Forms.{RULE_SETS}
 
 -- ---- a search, row by row
 
@@ -55,32 +56,25 @@ abbrev pub bits : Flags → ℕ
 bits Bits16 = 16
 bits Bits32 = 32
 
--- a row: its mark has two bytes, each of its principals a flag, and its rule set is one of the three
+-- a row: its mark has two bytes, each of its principals a flag, and its rule set is one of those that there are
 pub record Sound (f : Format) : Type 0 where
   pub mark-fits : f .mark < 2 ^ 16
   pub flag-each : f .most ≤ bits (f .flags)
-  pub rules-known : f .rules < 3
+  pub rules-known : f .rules < RULE_SETS
 
 bits-most : (x : Flags) → bits x ≤ 32
 bits-most Bits16 = omega arith
 bits-most Bits32 = omega arith
 
+wide-sound : (mark rules : ℕ) → mark < 2 ^ 16 → rules < RULE_SETS → Sound (wide mark rules)
+wide-sound mark rules m r = record { mark-fits = m; flag-each = omega arith; rules-known = r }
+
 pub format-found : (mark : ℕ) (f : Format) → formatOf mark ≡ Found f → (f .mark ≡ mark) × Sound f
 unfolding formats
 format-found mark f e =
-    found Sound mark formats f (
-      sound hd (omega arith) (omega arith) (omega arith),
-      (
-        sound hw (omega arith) (omega arith) (omega arith),
-        (
-          sound h5 (omega arith) (omega arith) (omega arith),
-          (sound h4 (omega arith) (omega arith) (omega arith), tt),
-        ),
-      ),
-    ) e
-  where
-    sound : (g : Format) → g .mark < 2 ^ 16 → g .most ≤ bits (g .flags) → g .rules < 3 → Sound g
-    sound g p q r = record { mark-fits = p; flag-each = q; rules-known = r }
+    found Sound mark formats f
+    (record { mark-fits = omega arith; flag-each = omega arith; rules-known = omega arith },
+    (wide-sound 0x4857 0 (omega arith) (omega arith), (wide-sound 0x4835 1 (omega arith) (omega arith), (wide-sound 0x4834 2 (omega arith) (omega arith), tt)))) e
 
 -- so a mark that is known allows at most 32 principals
 pub most-known : (mark : ℕ) (f : Format) → formatOf mark ≡ Found f → f .most ≤ 32

@@ -1,5 +1,4 @@
 -- `forms::open_reply` meets its contract: one way out for each layer of the chain, and one through. Assumes nothing.
-use mathlib.Core.Path.{sym, _∙_}
 use borrow.Author.Needs.{needs}
 use native.Mathlib.Omega.{arith}
 use Rattle.layers.specs.Laws.Layers.{stops, goes}

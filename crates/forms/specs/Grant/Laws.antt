@@ -1,7 +1,7 @@
 -- A message is read as a grant with these values exactly if it is the exchange's grant of that form with these values, X being the
 -- one that the exchange reads. Then, by cases, what the code answers.
 -- Assumes nothing.
-use Prim.Native.Nat.{ℕ, _<_, _≤_}
+use Prim.Native.Nat.{ℕ, _<_}
 use mathlib.Core.Logic.{_↔_}
 use mathlib.Core.List.{List}
 use mathlib.Core.Option.{Option, none, some}
@@ -11,7 +11,6 @@ use Rattle.terms.specs.Meaning.{messageAt}
 use Rattle.terms.specs.Message.{Message, nonce, pair}
 use Rattle.exchange.specs.declared.form.Form.{Form}
 use Rattle.exchange.specs.declared.form.Form.the-variants.{Parallel, Kerberos5, Kerberos4}
-use Rattle.traces.specs.Terms.{given}
 use Rattle.kerberos.specs.Messages.{reply, grant}
 use Rattle.kerberos.specs.Reading.{parts}
 use Rattle.layers.specs.Layers.{NONCE, PAIR, ofKind, operands, atom, first}
@@ -19,7 +18,6 @@ use Rattle.layers.specs.Laws.Layers.{Reads, given-back, of-kind, kind-is, pair-
 use Rattle.forms.specs.declared.Grant.{Grant}
 use Rattle.forms.specs.declared.Grant.the-variants as grants
 use Rattle.forms.specs.declared.Reply.{Reply}
-use Rattle.forms.specs.declared.Reply.the-variants as replies
 use Rattle.forms.specs.Grant.{replyForm, Granted, Is, Other, alone, grantOf, pairIn, grantIn, Replies, Grants}
 
 -- ---- which messages have the form

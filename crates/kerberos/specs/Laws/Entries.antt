@@ -16,7 +16,7 @@ use Rattle.exchange.specs.declared.form.Form.{Form}
 use Rattle.kerberos.specs.Log.{Event, Initiate, Respond, Issue, Authenticate, Accept, Finish, Tick, Purge, Leak, Nothing, Log, clock, forget, cacheAfter, cache}
 use Rattle.kerberos.specs.Reading.{rules, log, Lawful}
 use Rattle.kerberos.specs.Words.{Accepts, accepts5}
-use Rattle.kerberos.specs.Entries.{Entered, Entries}
+use Rattle.kerberos.specs.Entries.{Entries}
 use Rattle.kerberos.specs.Laws.Acceptance.{find-partner}
 use Rattle.kerberos.specs.Laws.Histories.{accepted-in, accepted-live}
 use Rattle.kerberos.specs.Laws.Taken.{accept-issued}

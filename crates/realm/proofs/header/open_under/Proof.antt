@@ -1,5 +1,5 @@
 -- `realm::header::open_under` meets its contract: by the law for each way out. Assumes nothing.
-use mathlib.Core.Path.{sym, ap, _∙_}
+use mathlib.Core.Path.{ap, _∙_}
 use Prim.Native.Nat.{ℕ}
 use Rattle.realm.specs.Opening.{openingBy, opened, not-opened}
 use borrow.Author.Needs.{needs}
