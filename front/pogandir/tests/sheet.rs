@@ -321,3 +321,11 @@ fn the_chart_keeps_what_is_passed_on_as_it_was_sent() {
     assert_eq!(html.matches("</tspan> request</text>").count(), 3);
     assert_eq!(html.matches("</tspan> ticket</text>").count(), 0);
 }
+
+/// A ticket inside of the initiator's part makes one long word of both keys.
+#[test]
+fn terms_can_break_where_an_encryption_ends_in_another() {
+    let html = sheet::html(&named(&top().join("examples/case-f-h4.names")));
+    assert!(html.contains("t0}K(cabinet)<wbr>}K(panel)</code>"));
+    assert!(!html.contains("K(cabinet)}K(panel)</code>"));
+}
