@@ -307,3 +307,25 @@ fn the_chart_draws_halves_from_where_they_come() {
         assert_eq!(last, [(sender, "run-2"), ("intruder", "run-2")], "{mark}");
     }
 }
+
+/// A request in the ticket's place is still the request of the run that asked.
+#[test]
+fn the_chart_keeps_what_is_passed_on_as_it_was_sent() {
+    let text = "panel = 1, cabinet = 2\n\
+        realm H5 3 principals, ticket life 100, authenticator life 10\n\
+        r0 = panel asks cabinet\nr1 = cabinet asks panel\ns0 = server answers r0\n\
+        r0 takes [s0.part, r1.request]\ns1 = server answers r0.ticket";
+    let html = sheet::html(&script::read("text", text).listed);
+    let expected = [("run-0", "run-2"), ("run-2", "run-0"), ("run-1", "run-0"), ("run-1", "run-3")];
+    assert_eq!(arrows(&html), expected);
+    assert_eq!(html.matches("</tspan> request</text>").count(), 3);
+    assert_eq!(html.matches("</tspan> ticket</text>").count(), 0);
+}
+
+/// A ticket inside of the initiator's part makes one long word of both keys.
+#[test]
+fn terms_can_break_where_an_encryption_ends_in_another() {
+    let html = sheet::html(&named(&top().join("examples/case-f-h4.names")));
+    assert!(html.contains("t0}K(cabinet)<wbr>}K(panel)</code>"));
+    assert!(!html.contains("K(cabinet)}K(panel)</code>"));
+}

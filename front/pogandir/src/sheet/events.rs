@@ -8,7 +8,7 @@ use super::rows::{Kind, Row};
 use crate::forms;
 use crate::vocabulary::{Step, INITIATE, ISSUE, LEAK, PAIR, PURGE, QUERY, TICK};
 use crate::vocabulary::{REFUSED_FORM, RESPOND};
-use crate::walk::{Acceptance, Walk};
+use crate::walk::{Acceptance, Sent, Walk};
 
 /// A lifeline: a run's, the server's where it refused and opened none, or the
 /// intruder's.
@@ -52,6 +52,8 @@ pub struct Event {
     pub act: Act,
 }
 
+const TICKET: &str = "ticket";
+
 /// The run that sent a term last, and the message's name.
 type Senders = BTreeMap<u16, (u8, &'static str)>;
 
@@ -65,11 +67,20 @@ pub fn events(walk: &Walk, rows: &[Row]) -> Vec<Event> {
             let told = format!("record {}: {}: {}", row.record, row.call, row.answer);
             events.push(Event { record: row.record, told, act });
         }
-        for sent in &taken.sent {
-            senders.extend(sent.named().map(|(name, term)| (term, (sent.run, name))));
-        }
+        taken.sent.iter().for_each(|sent| note(&mut senders, sent));
     }
     events
+}
+
+/// What an initiator passes on as the ticket can be any message. One that was sent as
+/// something else stays that.
+fn note(senders: &mut Senders, sent: &Sent) {
+    for (name, term) in sent.named() {
+        let is_other = |(_, before): &(u8, &str)| name == TICKET && *before != TICKET;
+        if !senders.get(&term).is_some_and(is_other) {
+            senders.insert(term, (sent.run, name));
+        }
+    }
 }
 
 fn act(walk: &Walk, senders: &Senders, row: &Row, call: Call) -> Act {

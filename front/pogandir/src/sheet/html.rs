@@ -35,15 +35,15 @@ pub fn plural(count: usize, what: &str) -> String {
     format!("{count} {what}{}", if count == 1 { "" } else { "s" })
 }
 
-/// A term in notation. A cut leads to its row in the table of terms; the script
-/// unfolds it where it stands.
+/// A term in notation, which can break where an encryption ends in another. A cut leads
+/// to its row in the table of terms; the script unfolds it where it stands.
 pub fn code(noted: &Noted) -> String {
     let piece = |piece: &Piece| match piece {
         Piece::Text(text) => escape(text),
         Piece::Cut(term) => format!("<a class=\"cut\" href=\"#term-{term}\">…{term}</a>"),
     };
     let shown: String = noted.pieces.iter().map(piece).collect();
-    format!("<code>{shown}</code>")
+    format!("<code>{}</code>", shown.replace(")}", ")<wbr>}"))
 }
 
 /// The file's name without its folders.

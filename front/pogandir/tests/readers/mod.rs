@@ -42,7 +42,7 @@ fn cell(text: &str) -> Result<(String, &str), String> {
     }
 }
 
-const VOID: [&str; 2] = ["meta", "input"];
+const VOID: [&str; 3] = ["meta", "input", "wbr"];
 const RAW: [&str; 2] = ["script", "style"];
 
 /// Whether every tag is closed in its order.
