@@ -10,7 +10,7 @@ use Rattle.terms.specs.Message.{Message}
 use Rattle.exchange.specs.declared.form.Form.the-variants.{Parallel, Kerberos5, Kerberos4}
 use Rattle.drafts.specs.declared.Node.{Node}
 use Rattle.drafts.specs.Draft.{draftMessage}
-use Rattle.layouts.specs.Promises.{request-at, reply-at, ticket-at, carried-at, nested-at, authenticator-at, presented-at, confirmation-at, key-at}
+use Rattle.layouts.specs.Promises.{request-at, reply-at, ticket-at, beside-at, inside-at, authenticator-at, presented-at, confirmation-at, key-at}
 use Rattle.decisions.specs.declared.Sends.{Sends}
 use Rattle.decisions.specs.declared.Sends.the-variants.{Request, Issue, Presented, Confirmation, Key}
 use Rattle.decisions.specs.declared.Sends.the-variants as sending
@@ -37,8 +37,8 @@ module _ (terms : List ℕ) where
   laid-right sending.Nothing = refl
   laid-right (Request a b n) = one (request-at stored a b n)
   laid-right (Issue Parallel k a b ts n) = ap₂ (λ (x y : Message). x ∷ y ∷ []) (reply-at stored k a b ts n) (ticket-at stored k a b ts n)
-  laid-right (Issue Kerberos5 k a b ts n) = one (carried-at stored k a b ts n)
-  laid-right (Issue Kerberos4 k a b ts n) = one (nested-at stored k a b ts n)
+  laid-right (Issue Kerberos5 k a b ts n) = one (beside-at stored k a b ts n)
+  laid-right (Issue Kerberos4 k a b ts n) = one (inside-at stored k a b ts n)
   laid-right (Presented Parallel a ta k x) = one (authenticator-at stored a ta k x)
   laid-right (Presented Kerberos5 a ta k x) = one (presented-at stored a ta k x)
   laid-right (Presented Kerberos4 a ta k x) = one (presented-at stored a ta k x)

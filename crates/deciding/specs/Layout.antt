@@ -5,8 +5,8 @@ use mathlib.Core.List.{List, []}
 use Rattle.drafts.specs.declared.Node.{Node}
 use Rattle.terms.specs.Valid.{Valid}
 use Rattle.sending.specs.Send.{AllWrites}
-use Rattle.layouts.specs.Drafts.{REQUEST_ROOT, REPLY_ROOT, TICKET_ROOT, CARRIED_ROOT, NESTED_ROOT, AUTHENTICATOR_ROOT, PRESENTED_ROOT, CONFIRMATION_ROOT, KEY_ROOT}
-use Rattle.layouts.specs.Drafts.{places, requestDraft, issueDraft, nestedIssueDraft, presentedDraft, confirmationDraft, keyDraft}
+use Rattle.layouts.specs.Drafts.{REQUEST_ROOT, REPLY_ROOT, TICKET_ROOT, BESIDE_ROOT, INSIDE_ROOT, AUTHENTICATOR_ROOT, PRESENTED_ROOT, CONFIRMATION_ROOT, KEY_ROOT}
+use Rattle.layouts.specs.Drafts.{places, requestDraft, issueDraft, insideIssueDraft, presentedDraft, confirmationDraft, keyDraft}
 use Rattle.decisions.specs.declared.Sends.{Sends}
 use Rattle.decisions.specs.declared.Sends.the-variants.{Request, Issue, Presented, Confirmation, Key}
 use Rattle.decisions.specs.declared.Sends.the-variants as sending
@@ -22,8 +22,8 @@ use Rattle.deciding.specs.declared.plan.Roots.the-variants.{At, Nothing}
 -- step 3: "sends {K, b, Ts, N} under a's key, then {K, a, Ts} under b's key", or one message
 abbrev pub issueRoots : Form → Roots
 issueRoots Parallel = At REPLY_ROOT TICKET_ROOT
-issueRoots Kerberos5 = At CARRIED_ROOT CARRIED_ROOT
-issueRoots Kerberos4 = At NESTED_ROOT NESTED_ROOT
+issueRoots Kerberos5 = At BESIDE_ROOT BESIDE_ROOT
+issueRoots Kerberos4 = At INSIDE_ROOT INSIDE_ROOT
 
 -- step 4: "sends {a, Ta}K", or "the pair of X and {a, Ta}K"
 abbrev pub presentedRoots : Form → Roots
@@ -43,7 +43,7 @@ rootsOf (Key k) = At KEY_ROOT KEY_ROOT
 abbrev pub issueDraftOf : Form → (k a b ts n : ℕ) → List Node
 issueDraftOf Parallel k a b ts n = issueDraft k a b ts n
 issueDraftOf Kerberos5 k a b ts n = issueDraft k a b ts n
-issueDraftOf Kerberos4 k a b ts n = nestedIssueDraft k a b ts n
+issueDraftOf Kerberos4 k a b ts n = insideIssueDraft k a b ts n
 
 -- the nodes themselves, none where nothing is sent
 abbrev pub draftOf : Sends → List Node

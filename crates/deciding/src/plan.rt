@@ -4,18 +4,18 @@ use drafts::NODES;
 use drafts::Node;
 use exchange::form::Form;
 use layouts::AUTHENTICATOR_ROOT;
-use layouts::CARRIED_ROOT;
+use layouts::BESIDE_ROOT;
 use layouts::CONFIRMATION_ROOT;
+use layouts::INSIDE_ROOT;
 use layouts::KEY_ROOT;
-use layouts::NESTED_ROOT;
 use layouts::PRESENTED_ROOT;
 use layouts::REPLY_ROOT;
 use layouts::REQUEST_ROOT;
 use layouts::TICKET_ROOT;
 use layouts::lay_confirmation;
+use layouts::lay_inside_issue;
 use layouts::lay_issue;
 use layouts::lay_key;
-use layouts::lay_nested_issue;
 use layouts::lay_presented;
 use layouts::lay_request;
 use sending::Marks;
@@ -43,12 +43,12 @@ fn issue_roots(form: Form) -> Roots
             last: TICKET_ROOT,
         },
         Form::Kerberos5 => Roots::At {
-            first: CARRIED_ROOT,
-            last: CARRIED_ROOT,
+            first: BESIDE_ROOT,
+            last: BESIDE_ROOT,
         },
         Form::Kerberos4 => Roots::At {
-            first: NESTED_ROOT,
-            last: NESTED_ROOT,
+            first: INSIDE_ROOT,
+            last: INSIDE_ROOT,
         },
     }
 }
@@ -102,7 +102,7 @@ fn issue_draft(form: Form, k: u16, a: u16, b: u16, ts: u32, n: u16) -> [Node; 16
     match form {
         Form::Parallel => lay_issue(k, a, b, ts, n),
         Form::Kerberos5 => lay_issue(k, a, b, ts, n),
-        Form::Kerberos4 => lay_nested_issue(k, a, b, ts, n),
+        Form::Kerberos4 => lay_inside_issue(k, a, b, ts, n),
     }
 }
 

@@ -28,8 +28,8 @@ abbrev pub TICKET_ROOT : ℕ
 TICKET_ROOT = 11
 
 -- H5: "sends one pair of the panel's part and the ticket"
-abbrev pub CARRIED_ROOT : ℕ
-CARRIED_ROOT = 12
+abbrev pub BESIDE_ROOT : ℕ
+BESIDE_ROOT = 12
 
 unfoldable pub issueDraft : (k a b ts n : ℕ) → List Node
 issueDraft k a b ts n = places 16 (
@@ -49,11 +49,11 @@ issueDraft k a b ts n = places 16 (
     ∷ [])
 
 -- H4: "the panel's part is {K, b, Ts, N, ticket} under a's key"
-abbrev pub NESTED_ROOT : ℕ
-NESTED_ROOT = 12
+abbrev pub INSIDE_ROOT : ℕ
+INSIDE_ROOT = 12
 
-unfoldable pub nestedIssueDraft : (k a b ts n : ℕ) → List Node
-nestedIssueDraft k a b ts n = places 16 (
+unfoldable pub insideIssueDraft : (k a b ts n : ℕ) → List Node
+insideIssueDraft k a b ts n = places 16 (
     Key (Session k)
     ∷ Principal b
     ∷ Time ts

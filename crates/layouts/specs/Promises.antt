@@ -10,8 +10,8 @@ use Rattle.drafts.specs.Draft.{draftMessage, draftFits}
 use Rattle.kerberos.specs.Messages.{request, reply, ticket, authenticator, confirmation}
 use Rattle.terms.specs.Descend.{descend, layers}
 use Rattle.terms.specs.Message.{session, Message, nonce, key, pair}
-use Rattle.layouts.specs.Drafts.{REQUEST_ROOT, REPLY_ROOT, TICKET_ROOT, CARRIED_ROOT, NESTED_ROOT, AUTHENTICATOR_ROOT, PRESENTED_ROOT, CONFIRMATION_ROOT, KEY_ROOT}
-use Rattle.layouts.specs.Drafts.{requestDraft, issueDraft, nestedIssueDraft, presentedDraft, confirmationDraft, keyDraft}
+use Rattle.layouts.specs.Drafts.{REQUEST_ROOT, REPLY_ROOT, TICKET_ROOT, BESIDE_ROOT, INSIDE_ROOT, AUTHENTICATOR_ROOT, PRESENTED_ROOT, CONFIRMATION_ROOT, KEY_ROOT}
+use Rattle.layouts.specs.Drafts.{requestDraft, issueDraft, insideIssueDraft, presentedDraft, confirmationDraft, keyDraft}
 
 -- the message at the root
 module _ (stored : ℕ → Message) where
@@ -27,13 +27,13 @@ module _ (stored : ℕ → Message) where
   unfolding issueDraft draftMessage descend layers
   ticket-at k a b ts n = refl
 
-  pub carried-at : (k a b ts n : ℕ) → draftMessage stored (issueDraft k a b ts n) CARRIED_ROOT ≡ pair (reply k b ts (nonce n) a) (ticket k a ts b)
+  pub beside-at : (k a b ts n : ℕ) → draftMessage stored (issueDraft k a b ts n) BESIDE_ROOT ≡ pair (reply k b ts (nonce n) a) (ticket k a ts b)
   unfolding issueDraft draftMessage descend layers
-  carried-at k a b ts n = refl
+  beside-at k a b ts n = refl
 
-  pub nested-at : (k a b ts n : ℕ) → draftMessage stored (nestedIssueDraft k a b ts n) NESTED_ROOT ≡ reply k b ts (pair (nonce n) (ticket k a ts b)) a
-  unfolding nestedIssueDraft draftMessage descend layers
-  nested-at k a b ts n = refl
+  pub inside-at : (k a b ts n : ℕ) → draftMessage stored (insideIssueDraft k a b ts n) INSIDE_ROOT ≡ reply k b ts (pair (nonce n) (ticket k a ts b)) a
+  unfolding insideIssueDraft draftMessage descend layers
+  inside-at k a b ts n = refl
 
   pub authenticator-at : (a ta k x : ℕ) → draftMessage stored (presentedDraft a ta k x) AUTHENTICATOR_ROOT ≡ authenticator a ta k
   unfolding presentedDraft draftMessage descend layers
@@ -61,9 +61,9 @@ module _ (n count : ℕ) where
   unfolding issueDraft draftFits each
   issue-fits k a b ts i h p q t r = rw (le-leb k 95 h, lt-ltb b n q, le-leb ts 4294967295 t, le-leb i 95 r, lt-ltb a n p)
 
-  pub nested-fits : (k a b ts i : ℕ) → k ≤ 95 → a < n → b < n → ts ≤ 4294967295 → i ≤ 95 → draftFits n count (nestedIssueDraft k a b ts i) ≡ true
-  unfolding nestedIssueDraft draftFits each
-  nested-fits k a b ts i h p q t r = rw (le-leb k 95 h, lt-ltb b n q, le-leb ts 4294967295 t, le-leb i 95 r, lt-ltb a n p)
+  pub inside-fits : (k a b ts i : ℕ) → k ≤ 95 → a < n → b < n → ts ≤ 4294967295 → i ≤ 95 → draftFits n count (insideIssueDraft k a b ts i) ≡ true
+  unfolding insideIssueDraft draftFits each
+  inside-fits k a b ts i h p q t r = rw (le-leb k 95 h, lt-ltb b n q, le-leb ts 4294967295 t, le-leb i 95 r, lt-ltb a n p)
 
   pub presented-fits : (a ta k x : ℕ) → a < n → ta ≤ 4294967295 → k ≤ 95 → x < count → draftFits n count (presentedDraft a ta k x) ≡ true
   unfolding presentedDraft draftFits each

@@ -4,7 +4,7 @@ use drafts::DraftKey;
 use drafts::NODES;
 use drafts::Node;
 ghost use mathlib.Core.Path.{_≡_};
-ghost use Rattle.layouts.specs.Drafts.{requestDraft, issueDraft, nestedIssueDraft, presentedDraft, confirmationDraft, keyDraft};
+ghost use Rattle.layouts.specs.Drafts.{requestDraft, issueDraft, insideIssueDraft, presentedDraft, confirmationDraft, keyDraft};
 
 // What stands in the places left.
 const BLANK: Node = Node::Time(0);
@@ -16,9 +16,9 @@ pub const REPLY_ROOT: usize = 7;
 
 pub const TICKET_ROOT: usize = 11;
 
-pub const CARRIED_ROOT: usize = 12;
+pub const BESIDE_ROOT: usize = 12;
 
-pub const NESTED_ROOT: usize = 12;
+pub const INSIDE_ROOT: usize = 12;
 
 pub const AUTHENTICATOR_ROOT: usize = 3;
 
@@ -58,13 +58,13 @@ pub fn lay_issue(k: u16, a: u16, b: u16, ts: u32, n: u16) -> [Node; 16]
     draft[9] = Node::Pair(8, 2);
     draft[10] = Node::Pair(0, 9);
     draft[TICKET_ROOT] = Node::Encrypted(10, DraftKey::LongTerm(b));
-    draft[CARRIED_ROOT] = Node::Pair(REPLY_ROOT, TICKET_ROOT);
+    draft[BESIDE_ROOT] = Node::Pair(REPLY_ROOT, TICKET_ROOT);
     draft
 }
 
 // Step 3: {K, b, Ts, N, {K, a, Ts} under b's key} under a's key.
-pub fn lay_nested_issue(k: u16, a: u16, b: u16, ts: u32, n: u16) -> [Node; 16]
-    ensures { λ r. ⌜ r ≡ nestedIssueDraft k a b ts n ⌝ }
+pub fn lay_inside_issue(k: u16, a: u16, b: u16, ts: u32, n: u16) -> [Node; 16]
+    ensures { λ r. ⌜ r ≡ insideIssueDraft k a b ts n ⌝ }
 {
     let mut draft = [BLANK; NODES];
     draft[0] = Node::Key(DraftKey::Session(k));
@@ -79,7 +79,7 @@ pub fn lay_nested_issue(k: u16, a: u16, b: u16, ts: u32, n: u16) -> [Node; 16]
     draft[9] = Node::Pair(2, 8);
     draft[10] = Node::Pair(1, 9);
     draft[11] = Node::Pair(0, 10);
-    draft[NESTED_ROOT] = Node::Encrypted(11, DraftKey::LongTerm(a));
+    draft[INSIDE_ROOT] = Node::Encrypted(11, DraftKey::LongTerm(a));
     draft
 }
 

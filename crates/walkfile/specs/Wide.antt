@@ -1,4 +1,4 @@
--- Files of both marks (document 02, change 2), byte for byte: 32 principals, and each mark's limit.
+-- Files under HD and HW (document 02, change 2), byte for byte: 32 principals, and each mark's limit.
 -- Assumes nothing.
 use Prim.Native.Nat.{ℕ}
 use mathlib.Core.Path.{_≡_, refl}

@@ -15,9 +15,9 @@ use Rattle.drafts.specs.declared.Node.{Node}
 use Rattle.exchange.specs.declared.form.Form.{Form}
 use Rattle.exchange.specs.declared.form.Form.the-variants.{Parallel, Kerberos5, Kerberos4}
 use Rattle.kerberos.specs.Messages.{authenticator}
-use Rattle.layouts.specs.Drafts.{REQUEST_ROOT, REPLY_ROOT, TICKET_ROOT, CARRIED_ROOT, NESTED_ROOT, AUTHENTICATOR_ROOT, PRESENTED_ROOT, CONFIRMATION_ROOT, KEY_ROOT, presentedDraft}
-use Rattle.layouts.specs.Promises.{request-at, reply-at, ticket-at, carried-at, nested-at, authenticator-at, presented-at, confirmation-at, key-at}
-use Rattle.layouts.specs.Promises.{request-fits, issue-fits, nested-fits, presented-fits, confirmation-fits, key-fits}
+use Rattle.layouts.specs.Drafts.{REQUEST_ROOT, REPLY_ROOT, TICKET_ROOT, BESIDE_ROOT, INSIDE_ROOT, AUTHENTICATOR_ROOT, PRESENTED_ROOT, CONFIRMATION_ROOT, KEY_ROOT, presentedDraft}
+use Rattle.layouts.specs.Promises.{request-at, reply-at, ticket-at, beside-at, inside-at, authenticator-at, presented-at, confirmation-at, key-at}
+use Rattle.layouts.specs.Promises.{request-fits, issue-fits, inside-fits, presented-fits, confirmation-fits, key-fits}
 use Rattle.sending.specs.declared.Marks.the-variants as marks
 use Rattle.sending.specs.declared.Prepared.{Prepared}
 use Rattle.sending.specs.Promises.{send-once, nothing-planned}
@@ -73,11 +73,11 @@ module _ (ts : List ℕ) (count : ℕ) where
   issued Kerberos5 k a b t n s =
       let w = s .writes .0 .0 in
       let fits = issue-fits (s .n) count k a b t n (w .0 .0) (w .1) (w .0 .1 .0) (omega (arith, w .0 .1 .1 .0)) (w .0 .1 .1 .1) in
-      one s fits CARRIED_ROOT (omega arith) _ (s .writes) (carried-at (messageAt ts) k a b t n)
+      one s fits BESIDE_ROOT (omega arith) _ (s .writes) (beside-at (messageAt ts) k a b t n)
   issued Kerberos4 k a b t n s =
       let w = s .writes .0 in
-      let fits = nested-fits (s .n) count k a b t n (w .0 .0) (w .1) (w .0 .1 .0) (omega (arith, w .0 .1 .1 .0)) (w .0 .1 .1 .1 .0) in
-      one s fits NESTED_ROOT (omega arith) _ (s .writes) (nested-at (messageAt ts) k a b t n)
+      let fits = inside-fits (s .n) count k a b t n (w .0 .0) (w .1) (w .0 .1 .0) (omega (arith, w .0 .1 .1 .0)) (w .0 .1 .1 .1 .0) in
+      one s fits INSIDE_ROOT (omega arith) _ (s .writes) (inside-at (messageAt ts) k a b t n)
 
   -- step 4, by the form: in each the authenticator {a, Ta}K is in range
   handed : (f : Form) (a ta k x : ℕ) → CanSend ts count (Presented f a ta k x) → Laid (Presented f a ta k x) (presentedRoots f)

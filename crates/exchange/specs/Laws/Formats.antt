@@ -72,9 +72,10 @@ wide-sound mark rules m r = record { mark-fits = m; flag-each = omega arith; rul
 pub format-found : (mark : ℕ) (f : Format) → formatOf mark ≡ Found f → (f .mark ≡ mark) × Sound f
 unfolding formats
 format-found mark f e =
-    found Sound mark formats f
-    (record { mark-fits = omega arith; flag-each = omega arith; rules-known = omega arith },
-    (wide-sound 0x4857 0 (omega arith) (omega arith), (wide-sound 0x4835 1 (omega arith) (omega arith), (wide-sound 0x4834 2 (omega arith) (omega arith), tt)))) e
+    found Sound mark formats f (
+      record { mark-fits = omega arith; flag-each = omega arith; rules-known = omega arith },
+      (wide-sound 0x4857 0 (omega arith) (omega arith), (wide-sound 0x4835 1 (omega arith) (omega arith), (wide-sound 0x4834 2 (omega arith) (omega arith), tt))),
+    ) e
 
 -- so a mark that is known allows at most 32 principals
 pub most-known : (mark : ℕ) (f : Format) → formatOf mark ≡ Found f → f .most ≤ 32

@@ -10,7 +10,7 @@ returns-2 : tie.Need-returns-2
 returns-2 c = rw (c .before .enum-told2 .given .1) (c .lay-issue2 .ensures)
 
 returns-3 : tie.Need-returns-3
-returns-3 c = rw (c .before .enum-told3 .given .1) (c .lay-nested-issue .ensures)
+returns-3 c = rw (c .before .enum-told3 .given .1) (c .lay-inside-issue .ensures)
 
 pub issue-draft-spec : {M : Type 1} → statement M
 issue-draft-spec =
