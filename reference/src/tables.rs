@@ -79,6 +79,19 @@ pub struct Tables {
 }
 
 impl Tables {
+    /// "A new hall has clock 0 and empty tables."
+    pub fn empty(settings: Settings) -> Tables {
+        Tables {
+            settings,
+            clock: 0,
+            counts: Counts::default(),
+            terms: vec![0; TERM_PLACES],
+            runs: vec![0; RUN_WORDS],
+            wire: vec![0; WIRE_WORDS],
+            cache: vec![Place::default(); MAX_ENTRIES],
+        }
+    }
+
     /// A call, as a TM or an ST record makes it. A refused one leaves every
     /// place as it was.
     pub fn call(&mut self, record: &Record) -> Result<Answer, Refusal> {

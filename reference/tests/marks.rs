@@ -7,9 +7,9 @@ use common::{check, record, walk};
 use reference::file::{read_header, Header, Record, Settings, StepRecord};
 use reference::listing;
 use reference::marks::{format_of, mark, FORMATS};
-use reference::realm::{Answer, MAX_ENTRIES};
+use reference::realm::Answer;
 use reference::refusal::Refusal;
-use reference::tables::{Counts, Place, Tables, RUN_WORDS, TERM_PLACES, WIRE_WORDS};
+use reference::tables::Tables;
 use reference::writing::{file_bytes, rewrite, words, write};
 
 const HD: u16 = mark(b"HD");
@@ -285,20 +285,12 @@ fn wide_files_are_written_as_they_were() {
     }
 }
 
-/// Tables handed in: n to 32 in every realm, since it keeps no mark.
+/// Tables handed in: n to 32 in every realm, whatever its mark was.
 #[test]
 fn tables_have_the_widest_limit() {
     let call = |principals: u8, flags: u32, record: StepRecord| {
         let settings = Settings { principals, flags, ..HEADER.settings() };
-        let mut tables = Tables {
-            settings,
-            clock: 0,
-            counts: Counts::default(),
-            terms: vec![0; TERM_PLACES],
-            runs: vec![0; RUN_WORDS],
-            wire: vec![0; WIRE_WORDS],
-            cache: vec![Place::default(); MAX_ENTRIES],
-        };
+        let mut tables = Tables::empty(settings);
         tables.call(&Record::Step(record))
     };
     let tick = StepRecord { step: 7, time: 1, ..StepRecord::default() };

@@ -7,9 +7,9 @@ use common::{check, check_each, times, walk, EXCHANGE};
 use reference::file::{read_header, read_records, Record, StepRecord, TermRecord};
 use reference::listing;
 use reference::marks::{format_of, mark};
-use reference::realm::{Answer, MAX_ENTRIES};
+use reference::realm::Answer;
 use reference::refusal::Refusal;
-use reference::tables::{Counts, Place, Tables, RUN_WORDS, TERM_PLACES, WIRE_WORDS};
+use reference::tables::Tables;
 
 /// Under H5 and H4 the tickets go by the initiator: the walks of both are alike.
 const CARRIED: [&str; 2] = ["H5", "H4"];
@@ -345,15 +345,7 @@ fn the_last_two_of_32_agree() {
 fn tables(text: &str) -> Tables {
     let file = walk(text);
     let (header, rest) = read_header(&file).unwrap();
-    let mut tables = Tables {
-        settings: header.settings(),
-        clock: 0,
-        counts: Counts::default(),
-        terms: vec![0; TERM_PLACES],
-        runs: vec![0; RUN_WORDS],
-        wire: vec![0; WIRE_WORDS],
-        cache: vec![Place::default(); MAX_ENTRIES],
-    };
+    let mut tables = Tables::empty(header.settings());
     for record in read_records(rest).0 {
         tables.call(&record).unwrap();
     }

@@ -75,7 +75,7 @@ passed-on5 = record {
   sent-on = sent here here;
 }
 
--- H4: X stands inside the reply, so that the intruder can choose it only where the initiator is bad; it makes the reply itself.
+-- H4: X stands inside the reply; here the initiator is bad, and the intruder makes the reply himself.
 abbrev pub forged : History
 forged =
     (Step 4 0 0 0 12 0, Ok (Run 0) 3)

@@ -53,10 +53,9 @@ pub fn requests(script: &mut Script<World>) {
     script.walk("the same principals", HEADER, &twice);
 }
 
-/// Step 3: K and Ts stand in both messages.
-pub fn replies(script: &mut Script<World>) {
-    let asked = made_all(&opened(HEADER), &[opens(1, 1, 2)]);
-    let reply = [
+/// What step 3 adds where it sends both parts: K and Ts stand in both.
+fn both_parts() -> Vec<Call> {
+    vec![
         term(4, 1, 0),
         term(1, 0, 0),
         term(5, 6, 2),
@@ -68,8 +67,13 @@ pub fn replies(script: &mut Script<World>) {
         term(5, 5, 12),
         term(3, 2, 0),
         term(6, 13, 14),
-    ];
-    each(script, "step 3", &asked, &reply, serves(4));
+    ]
+}
+
+/// Step 3 under HD.
+pub fn replies(script: &mut Script<World>) {
+    let asked = made_all(&opened(HEADER), &[opens(1, 1, 2)]);
+    each(script, "step 3", &asked, &both_parts(), serves(4));
     script.walk("the same request", HEADER, &[opens(1, 1, 2), serves(4), serves(4), serves(4)]);
 }
 
@@ -88,21 +92,9 @@ pub fn authenticators(script: &mut Script<World>) {
 /// pair of the two; the ticket first, and in the part. Step 4 sends the ticket with
 /// the authenticator.
 pub fn carried_tickets(script: &mut Script<World>) {
-    let beside = [
-        term(4, 1, 0),
-        term(1, 0, 0),
-        term(5, 6, 2),
-        term(5, 1, 7),
-        term(5, 5, 8),
-        term(3, 1, 0),
-        term(6, 9, 10),
-        term(5, 0, 6),
-        term(5, 5, 12),
-        term(3, 2, 0),
-        term(6, 13, 14),
-        term(5, 11, 15),
-    ];
-    let within = [
+    let mut beside = both_parts();
+    beside.push(term(5, 11, 15));
+    let within = vec![
         term(4, 1, 0),
         term(1, 0, 0),
         term(5, 0, 6),
