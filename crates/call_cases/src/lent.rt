@@ -9,14 +9,14 @@ use realm::header::Realm;
 use replay::entry::{Answer, Entry, Purge};
 
 // The places after `remember` or `forget`, and its answer.
-#[derive(Drop)]
+#[derive(Clone, Copy)]
 pub struct Kept {
     pub cache: [Entry; 17],
     pub answer: Answer,
 }
 
 // The places after a call, the realm and the answer.
-#[derive(Drop)]
+#[derive(Clone, Copy)]
 pub struct Made {
     pub cache: [Entry; 17],
     pub called: Called,

@@ -19,6 +19,8 @@
 //   S  step, run, a, b, m, t: takes a step
 //   M  b, K, Ta: remembers an entry, by the call of that name alone
 //   F  b, clock, La: forgets b's entries, likewise
+#![tactic(auto)]
+
 mod lent;
 mod obey;
 mod show;

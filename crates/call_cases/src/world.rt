@@ -7,7 +7,7 @@ use replay::entry::Entry;
 const ROW: usize = 7;
 
 // Each table has a place more than it should.
-#[derive(Drop)]
+#[derive(Clone, Copy)]
 pub struct World {
     pub realm: Realm,
     pub terms: [u64; 513],

@@ -1,5 +1,7 @@
 // The public call on the caller's own tables, the replay cache lent as a list of records. A function with a `&mut [Entry]` in it
 // is proved by a walk of its MIR, by hand, and so is each that calls it; so this is one thin function over the call by value.
+#![tactic(auto)]
+
 pub mod knowledge;
 
 ghost use Rattle.std.specs.Prelude.{◌≡◌};
@@ -15,7 +17,7 @@ use replay::entry::{Entry, PLACES};
 use terms::rules::REFUSE_TABLES;
 
 // A realm after a call, and the answer.
-#[derive(Drop)]
+#[derive(Clone, Copy)]
 pub struct Called {
     pub realm: Realm,
     pub answer: Answer,

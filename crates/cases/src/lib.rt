@@ -1,6 +1,8 @@
 // Stored cases, as a program has them on its standard input: lines of 68 bytes. Each begins with a letter, which says what
 // the line is for. Behind it stand six numbers, each after a blank and set to the right in ten places, or else a text,
 // filled up with dots.
+#![tactic(auto)]
+
 ghost use Rattle.std.specs.Prelude.{◌≤◌};
 
 // The bytes of a line, with its end.
@@ -17,7 +19,7 @@ const FIRST: usize = 2;
 const LAST: usize = 67;
 
 // A line's letter, its numbers in their order, and all its bytes. The letter is 0 where the input has ended.
-#[derive(Drop)]
+#[derive(Clone, Copy)]
 pub struct Line {
     pub letter: u8,
     pub a: u32,

@@ -1,11 +1,13 @@
 // Two texts side by side, and how many comparisons failed.
+#![tactic(auto)]
+
 ghost use Rattle.std.specs.Prelude.{◌≡◌, ◌+◌, ◌<◌, ◌≤◌};
 ghost use Rattle.comparison.specs.Compare.{difference, disagreements};
 
 pub const NEWLINE: u8 = 10;
 
 // Two texts are the same, or differ first in this line, counted from 1.
-#[derive(Drop)]
+#[derive(Clone, Copy)]
 pub enum Verdict {
     Same,
     Line(usize),
@@ -36,7 +38,7 @@ pub fn first_difference(a: &[u8], b: &[u8]) -> Verdict
 }
 
 // How many comparisons were made, and how many of them failed.
-#[derive(Drop)]
+#[derive(Clone, Copy)]
 pub struct Totals {
     pub compared: u64,
     pub differ: u64,

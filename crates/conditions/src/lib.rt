@@ -1,4 +1,6 @@
 // The conditions that steps share: whether the intruder can deliver a message, times, and the replay cache.
+#![tactic(auto)]
+
 ghost use Rattle.std.specs.Prelude.{◌≡◌, ◌≤◌};
 ghost use Rattle.conditions.specs.Conditions.{Askable, KeptBy, derivable_at, ticket_lives, authenticator_lives, not_ahead, admission};
 

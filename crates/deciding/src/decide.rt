@@ -15,7 +15,7 @@ use sending::{Marks, Prepared};
 use terms::rules::REFUSE_FULL;
 use terms::table::MAX_TERMS;
 
-#[derive(Drop)]
+#[derive(Clone, Copy)]
 pub struct Decision {
     pub verdict: Verdict,
     pub prepared: Prepared,

@@ -15,7 +15,7 @@ use layouts::{
 use sending::{Marks, Prepared, plan_messages};
 
 // Where the messages stand in their draft; where there is one message its node is named twice.
-#[derive(Drop)]
+#[derive(Clone, Copy)]
 pub enum Roots {
     At { first: usize, last: usize },
     Nothing,

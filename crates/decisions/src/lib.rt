@@ -1,12 +1,14 @@
 // What a step comes to, by value: what the tables do, or the number of the refusal. A decision is made where its values are known
 // and carries all that is written, so whoever writes it goes through no steps.
+#![tactic(auto)]
+
 use exchange::call::Names;
 use exchange::form::Form;
 use exchange::run::Row;
 use replay::entry::Entry;
 
 // The next run is opened with this row, or run r gets it.
-#[derive(Drop)]
+#[derive(Clone, Copy)]
 pub enum Change {
     Open(Row),
     Set { r: u8, row: Row },
@@ -14,7 +16,7 @@ pub enum Change {
 }
 
 // What the replay cache does: step 5 remembers an entry behind the others, step 8 forgets those of b.
-#[derive(Drop)]
+#[derive(Clone, Copy)]
 pub enum Keeping {
     Same,
     Remember(Entry),
@@ -22,7 +24,7 @@ pub enum Keeping {
 }
 
 // The messages that are sent, those of steps 3 and 4 by the form.
-#[derive(Drop)]
+#[derive(Clone, Copy)]
 pub enum Sends {
     Nothing,
     Request {
@@ -53,7 +55,7 @@ pub enum Sends {
     Key(u16),
 }
 
-#[derive(Drop)]
+#[derive(Clone, Copy)]
 pub struct Effect {
     pub change: Change,
     pub keeping: Keeping,
@@ -62,7 +64,7 @@ pub struct Effect {
     pub names: Names,
 }
 
-#[derive(Drop)]
+#[derive(Clone, Copy)]
 pub enum Verdict {
     Takes(Effect),
     Refused(u8),

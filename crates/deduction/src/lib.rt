@@ -1,4 +1,6 @@
 // What the intruder has without the wire. The specs of this crate say what he can derive.
+#![tactic(auto)]
+
 ghost use Rattle.std.specs.Prelude.{◌≡◌};
 ghost use Rattle.deduction.specs.Public.{public_of};
 
@@ -6,7 +8,7 @@ use marks::flagged;
 use words::Term;
 
 // What deduction has to know of a realm: the number of principals, and which of them are bad.
-#[derive(Drop)]
+#[derive(Clone, Copy)]
 pub struct Principals {
     pub n: u16,
     pub flags: u32,

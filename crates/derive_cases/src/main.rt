@@ -8,6 +8,8 @@
 //   T  a place of the table; kind, L and R of what it holds
 //   W  a word of the wire; its upper and its lower half
 //   Q  a term's number: can the intruder derive it?
+#![tactic(auto)]
+
 use cases::{Line, least, print_number, print_text, word};
 use deduction::Principals;
 use synthesis::lent::{Answer, can_derive};
@@ -16,7 +18,7 @@ use synthesis::lent::{Answer, can_derive};
 const LINES: usize = 65536;
 
 // How many terms there are, and how many places and words are lent.
-#[derive(Drop)]
+#[derive(Clone, Copy)]
 struct Lent {
     count: usize,
     places: usize,

@@ -1,5 +1,7 @@
 // Derivations as long and as deep as can be: a chain of every key that a realm can keep from the intruder, and a pair of a
 // term with itself nested up to the last place. One line for each question, with the answer.
+#![tactic(auto)]
+
 use deduction::Principals;
 use lent_terms::add_term;
 use marks::with;

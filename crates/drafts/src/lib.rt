@@ -1,18 +1,20 @@
 // A message that is to be added, laid out as a small table of its own. The operands of a node are earlier nodes; a node
 // can also be a term that stands in the term table already.
+#![tactic(auto)]
+
 ghost use Rattle.std.specs.Prelude.{◌≡◌};
 ghost use Rattle.drafts.specs.Draft.{key_fits, node_fits, draft_fits, word_of_key, layer_of};
 
 use terms::rules::LAST_NUMBER;
 use words::{Term, encode};
 
-#[derive(Drop)]
+#[derive(Clone, Copy)]
 pub enum DraftKey {
     LongTerm(u16),
     Session(u16),
 }
 
-#[derive(Drop)]
+#[derive(Clone, Copy)]
 pub enum Node {
     Principal(u16),
     Time(u32),
@@ -72,7 +74,7 @@ pub fn draft_fits(draft: [Node; 16], n: u16, count: usize) -> bool
 
 // A node as adding needs it: a term's number, the word of a term without operands, or the operands. The key of an
 // encryption has none of its own, so its word is known.
-#[derive(Drop)]
+#[derive(Clone, Copy)]
 pub enum Layer {
     Stored(u16),
     Atom(u64),

@@ -13,7 +13,7 @@ use replay::entry::Entry;
 use sending::{Prepared, write_messages};
 
 // A realm and its cache after a call, and the answer.
-#[derive(Drop)]
+#[derive(Clone, Copy)]
 pub struct After {
     pub realm: Realm,
     pub cache: [Entry; 16],

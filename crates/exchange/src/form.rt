@@ -4,7 +4,7 @@ ghost use Rattle.exchange.specs.Forms.{form_of};
 
 // How the server's ticket for the responder gets there: sent apart; carried by the initiator, beside the server's reply to it; carried
 // inside that reply.
-#[derive(Drop)]
+#[derive(Clone, Copy)]
 pub enum Form {
     Parallel,
     Kerberos5,

@@ -7,7 +7,7 @@ pub const REFUSE_FILE: u8 = 1;
 
 // The values, as the file has them.
 #[repr(C)]
-#[derive(Drop)]
+#[derive(Clone, Copy)]
 pub struct Header {
     // two letters, the first in the high byte
     pub mark: u16,
@@ -20,14 +20,14 @@ pub struct Header {
 }
 
 // How many bits the flags have in the file.
-#[derive(Drop)]
+#[derive(Clone, Copy)]
 pub enum Flags {
     Bits16,
     Bits32,
 }
 
 // What a mark says of its header.
-#[derive(Drop)]
+#[derive(Clone, Copy)]
 pub struct Format {
     pub mark: u16,
     pub flags: Flags,
@@ -70,7 +70,7 @@ const MARKS: usize = 4;
 // A row for each mark.
 const FORMATS: [Format; MARKS] = [HD, HW, H5, H4];
 
-#[derive(Drop)]
+#[derive(Clone, Copy)]
 pub enum Lookup {
     Found(Format),
     Missing,

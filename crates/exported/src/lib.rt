@@ -1,6 +1,8 @@
 // A new realm, the public call, the terms that the intruder can derive, the listing of a walk file, and a walk written as a file, for
 // programs in other languages. An exported function takes numbers, slices and structs of numbers, so calls and answers are structs of
 // numbers here.
+#![tactic(auto)]
+
 ghost use Rattle.std.specs.Prelude.{◌≡◌};
 ghost use Rattle.realm.specs.Opening.{opening_of};
 ghost use Rattle.realm.specs.Tables.{tables};
@@ -21,7 +23,7 @@ use writer::walk::{Filing, write_walk};
 
 // A new realm and 0; or a realm of zeros, on which every call gives 10, and the number of the refusal.
 #[repr(C)]
-#[derive(Drop)]
+#[derive(Clone, Copy)]
 pub struct Opened {
     pub realm: Realm,
     pub refusal: u8,
@@ -57,7 +59,7 @@ pub extern "C" fn pogandir_open(header: Header) -> Opened
 // A call: a term where `adds`, with the next three fields, or else a step, with the others.
 // Fields that are not used may hold anything.
 #[repr(C)]
-#[derive(Drop)]
+#[derive(Clone, Copy)]
 pub struct Record {
     pub adds: bool,
     pub kind: u8,
@@ -83,7 +85,7 @@ const REFUSED: u8 = 3;
 // A realm after a call, the kind of the answer, its number, or else 0, and how many terms were added: 1 for a new term, 0 for one that
 // was present.
 #[repr(C)]
-#[derive(Drop)]
+#[derive(Clone, Copy)]
 pub struct Reply {
     pub realm: Realm,
     pub kind: u8,
@@ -178,7 +180,7 @@ pub extern "C" fn pogandir_known(h: Realm, terms: &[u64], wire: &[u64], out: &mu
 
 // Whether the buffer has room for any listing, and how many of its bytes are the listing's, or else 0.
 #[repr(C)]
-#[derive(Drop)]
+#[derive(Clone, Copy)]
 pub struct Listed {
     pub fits: bool,
     pub count: usize,
@@ -200,7 +202,7 @@ pub extern "C" fn pogandir_list(file: &[u8], out: &mut [u8]) -> Listed
 
 // The number of the refusal, or 0, and how many bytes were written, or else 0.
 #[repr(C)]
-#[derive(Drop)]
+#[derive(Clone, Copy)]
 pub struct Filed {
     pub refusal: u8,
     pub count: usize,

@@ -1,4 +1,6 @@
 // The fields of the listing's lines, written into a lent buffer from an offset on. Each function answers the offset after what it wrote.
+#![tactic(auto)]
+
 ghost use Rattle.std.specs.Prelude.{◌++◌, ◌≡◌, ◌+◌, ◌≤◌, length};
 ghost use Rattle.fields.specs.Fields.{decimal, mark_text, names_text, answer_text};
 ghost use Rattle.fields.specs.Placed.{Wrote};

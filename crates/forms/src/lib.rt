@@ -1,5 +1,7 @@
 // The messages that steps 3 to 6 take, taken apart from the outside in. The first layer that does not fit ends it with
 // `Other`, which the step that asked turns into refusal 14. Tests of a value against the run's own are the steps'.
+#![tactic(auto)]
+
 ghost use Rattle.std.specs.Prelude.{◌≡◌};
 ghost use Rattle.terms.specs.Meaning.{message_at};
 ghost use Rattle.layers.specs.Layers.{NONCE, first};
@@ -15,7 +17,7 @@ use layers::{
 };
 use words::Term;
 
-#[derive(Drop)]
+#[derive(Clone, Copy)]
 pub enum Request {
     Is { a: u16, b: u16, n: u16 },
     Other,
@@ -39,7 +41,7 @@ pub fn open_request(terms: &[u64], m: u16) -> Request
 }
 
 // What is read of {K, b, Ts, ..} under a's key, and the number of the term that is left.
-#[derive(Drop)]
+#[derive(Clone, Copy)]
 pub enum Reply {
     Is {
         k: u16,
@@ -71,7 +73,7 @@ fn open_reply(terms: &[u64], m: u16) -> Reply
 }
 
 // What the initiator takes: the server's reply, and the number of the term X, which is not opened.
-#[derive(Drop)]
+#[derive(Clone, Copy)]
 pub enum Grant {
     Is {
         k: u16,
@@ -135,7 +137,7 @@ pub fn open_grant(form: Form, terms: &[u64], m: u16) -> Grant
     }
 }
 
-#[derive(Drop)]
+#[derive(Clone, Copy)]
 pub enum Ticket {
     Is { k: u16, a: u16, ts: u32, b: u16 },
     Other,
@@ -161,7 +163,7 @@ pub fn open_ticket(terms: &[u64], m: u16) -> Ticket
     Ticket::Is { k, a, ts, b }
 }
 
-#[derive(Drop)]
+#[derive(Clone, Copy)]
 pub enum Authenticator {
     Is { a: u16, ta: u32, k: u16 },
     Other,
@@ -184,7 +186,7 @@ pub fn open_authenticator(terms: &[u64], m: u16) -> Authenticator
     Authenticator::Is { a, ta, k }
 }
 
-#[derive(Drop)]
+#[derive(Clone, Copy)]
 pub enum Delivery {
     Is {
         k: u16,
@@ -224,7 +226,7 @@ pub fn open_delivery(terms: &[u64], m: u16) -> Delivery
     Delivery::Is { k, a, ts, b, ta }
 }
 
-#[derive(Drop)]
+#[derive(Clone, Copy)]
 pub enum Confirmation {
     Is { ta: u32, k: u16 },
     Other,

@@ -1,4 +1,6 @@
 // Reading an input into a lent buffer, each part behind those before it.
+#![tactic(auto)]
+
 ghost use Rattle.std.specs.Prelude.{◌+◌, ◌-◌, ◌≤◌, ◌≡◌, length};
 ghost use Rattle.io.specs.Counts.{clamp_len};
 ghost use Rattle.input.specs.Reads.{Reads};
@@ -9,7 +11,7 @@ const INTERRUPTIONS: u32 = 1000000;
 
 // How many bytes of the buffer are read, and what the last read answered: above 0 where the buffer is full, 0 at the end of
 // the input, below 0 where it failed.
-#[derive(Drop)]
+#[derive(Clone, Copy)]
 pub struct Input {
     pub count: usize,
     pub last: isize,

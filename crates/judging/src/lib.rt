@@ -1,4 +1,6 @@
 // A walk file's listing against the one that is stored for it.
+#![tactic(auto)]
+
 ghost use Rattle.std.specs.Prelude.{◌≡◌};
 ghost use Rattle.comparison.specs.Compare.{difference};
 ghost use Rattle.walkfile.specs.Listing.{listing_of};

@@ -1,5 +1,7 @@
 // One layer of a message: a value is read, and the number of the term that is left. The first layer that does not fit ends
 // the message that is taken apart with `Other`.
+#![tactic(auto)]
+
 ghost use Rattle.std.specs.Prelude.{◌≡◌};
 ghost use Rattle.terms.specs.Meaning.{message_at};
 ghost use Rattle.terms.specs.Rules.{term_at};
@@ -17,13 +19,13 @@ pub fn term_at(terms: &[u64], i: u16) -> Term
 }
 
 // The value of a layer, and the number of the term that is left.
-#[derive(Drop)]
+#[derive(Clone, Copy)]
 pub enum Opened {
     Value(u16, u16),
     Other,
 }
 
-#[derive(Drop)]
+#[derive(Clone, Copy)]
 pub enum OpenedTime {
     Value(u32, u16),
     Other,

@@ -1,5 +1,7 @@
 // The messages that steps send, laid out as drafts: a node for each term, in the order in which adding meets them, each
 // after its parts, left before right. A message is written at the place that its constant names.
+#![tactic(auto)]
+
 ghost use Rattle.std.specs.Prelude.{◌≡◌};
 ghost use Rattle.layouts.specs.Drafts.{request_draft, issue_draft, inside_issue_draft, presented_draft, confirmation_draft, key_draft};
 

@@ -1,5 +1,7 @@
 // The public calls on a lent term table: any slice, any numbers, nothing required. A table that does not hold together
 // gets 10, and a refused call leaves every place as it was.
+#![tactic(auto)]
+
 ghost use Rattle.std.specs.Prelude.{◌≡◌, ◌<◌, length};
 ghost use Rattle.terms.specs.Add.{add_outcome};
 ghost use Rattle.lent_terms.specs.Lent.{lookup_of, add_term_of};
@@ -46,7 +48,7 @@ pub fn holds_together(terms: &[u64], count: usize, n: u16) -> bool
     true
 }
 
-#[derive(Drop)]
+#[derive(Clone, Copy)]
 pub enum Lookup {
     At(usize),
     Nothing,

@@ -1,4 +1,6 @@
 // The lines of the listing, written into a lent buffer from an offset on. Each function answers the offset after what it wrote.
+#![tactic(auto)]
+
 ghost use Rattle.std.specs.Prelude.{◌+◌, ◌<◌, ◌≤◌, length};
 ghost use Rattle.fields.specs.Placed.{Wrote};
 ghost use Rattle.lines.specs.Lines.{LONGEST, header_line, call_line, file_line, end_line};

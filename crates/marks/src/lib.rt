@@ -1,4 +1,6 @@
 // Packed sets of small numbers: number i is bit i % 64 of word i / 64. A set of terms is 8 words.
+#![tactic(auto)]
+
 ghost use Rattle.std.specs.Prelude.{◌≡◌, ◌+◌, ◌*◌, ◌<◌, ◌≤◌, length};
 ghost use Rattle.std.proofs.Math.Seq.{paste};
 ghost use Rattle.marks.specs.Marks.{Words, is_set, marked, with_mark, size};

@@ -9,7 +9,7 @@ use lent_terms::holds_together;
 use terms::rules::{REFUSE_FULL, REFUSE_RANGE, REFUSE_TABLES};
 use terms::table::MAX_TERMS;
 
-#[derive(Drop)]
+#[derive(Clone, Copy)]
 pub enum Stored {
     // The message's number, and how many terms the table now has.
     At(u16, usize),

@@ -11,7 +11,7 @@ use terms::table::Found;
 use words::pack;
 
 // The number of the term that was planned last, and how many words are planned.
-#[derive(Drop)]
+#[derive(Clone, Copy)]
 pub struct Planned {
     pub number: u16,
     pub count: usize,

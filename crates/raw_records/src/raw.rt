@@ -9,7 +9,7 @@ use records::record::{STEP_MARK, TERM_MARK};
 pub const RECORD_WORDS: usize = 7;
 
 // A record as it was handed in: any numbers.
-#[derive(Drop)]
+#[derive(Clone, Copy)]
 pub enum RawRecord {
     Term {
         kind: u32,

@@ -7,7 +7,7 @@ use exchange::header::{Format, Header, Lookup, REFUSE_FILE, format_of};
 use marks::flagged;
 
 #[repr(C)]
-#[derive(Drop)]
+#[derive(Clone, Copy)]
 pub struct Realm {
     pub n: u8,
     // the number of its rule set
@@ -77,7 +77,7 @@ pub fn header_refusal(header: Header) -> u8
     }
 }
 
-#[derive(Drop)]
+#[derive(Clone, Copy)]
 pub enum Opening {
     Open(Realm),
     Refused(u8),

@@ -7,7 +7,7 @@ use runs::lent::principals_fit;
 use terms::rules::{REFUSE_KIND, REFUSE_RANGE, REFUSE_UNUSED};
 
 // The fields of a step, as an ST record has them.
-#[derive(Drop)]
+#[derive(Clone, Copy)]
 pub struct Step {
     pub step: u8,
     pub run: u8,
@@ -18,7 +18,7 @@ pub struct Step {
 }
 
 // Which fields a step uses.
-#[derive(Drop)]
+#[derive(Clone, Copy)]
 pub struct Uses {
     pub run: bool,
     pub a: bool,

@@ -1,5 +1,7 @@
 // Receiving: the steps that take a message, 3 to 6. A message is taken apart from the outside in; one that has not the
 // step's form gets 14. Whether the intruder can deliver it, 15, is left open here.
+#![tactic(auto)]
+
 ghost use Rattle.std.specs.Prelude.{List, ◌≡◌, ℕ, ◌<◌, ◌≤◌};
 ghost use Rattle.terms.specs.Valid.{Valid};
 ghost use Rattle.conditions.specs.Conditions.{derivable_at};
@@ -24,7 +26,7 @@ pub const REFUSE_RUNS_FULL: u8 = 13;
 pub const REFUSE_FORM: u8 = 14;
 
 // What a step comes to, where whether the intruder can deliver its message, 15, is still open.
-#[derive(Drop)]
+#[derive(Clone, Copy)]
 pub enum Pending {
     // This, whatever he can build.
     Settled(Verdict),

@@ -16,7 +16,7 @@ const FLAGS_AT: usize = 3;
 const LIVES_BYTES: usize = 8;
 
 // The values as they stand in the file; whether a realm can have them is refusal 2, which is not decided here.
-#[derive(Drop)]
+#[derive(Clone, Copy)]
 pub enum Heading {
     Read(Header),
     Refused(u8),

@@ -16,7 +16,7 @@ pub const STEP_BYTES: usize = 12;
 
 pub const REFUSE_RECORD: u8 = 3;
 
-#[derive(Drop)]
+#[derive(Clone, Copy)]
 pub enum Record {
     // A whole record; the one after it begins at `next`.
     Call { call: Call, next: usize },

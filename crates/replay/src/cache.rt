@@ -6,14 +6,14 @@ ghost use Rattle.replay.specs.Cache.{same, present, stays, entries, cache_refusa
 use crate::entry::{Answer, Entry, PLACES, Purge, REFUSE_CACHE_FULL, REFUSE_REPLAY, REFUSE_TABLES};
 
 // The places after a call, and its answer.
-#[derive(Drop)]
+#[derive(Clone, Copy)]
 pub struct After {
     pub places: [Entry; PLACES],
     pub answer: Answer,
 }
 
 // The places and how many entries there are, after one was put behind the others, or some were forgotten.
-#[derive(Drop)]
+#[derive(Clone, Copy)]
 pub struct Swept {
     pub places: [Entry; PLACES],
     pub count: usize,

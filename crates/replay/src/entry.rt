@@ -12,7 +12,7 @@ pub const REFUSE_CACHE_FULL: u8 = 19;
 
 // The responder, the number of the session key, and the authenticator's time. The first two are as wide as a term's operand.
 #[repr(C)]
-#[derive(Drop)]
+#[derive(Clone, Copy)]
 pub struct Entry {
     pub b: u16,
     pub k: u16,
@@ -23,7 +23,7 @@ pub struct Entry {
 pub const EMPTY: Entry = Entry { b: 0, k: 0, ta: 0 };
 
 // Whose entries are forgotten (step 8), at which clock, and the life of an authenticator.
-#[derive(Drop)]
+#[derive(Clone, Copy)]
 pub struct Purge {
     pub b: u16,
     pub clock: u32,
@@ -31,7 +31,7 @@ pub struct Purge {
 }
 
 // How many entries the list holds after an accepted call, or the number of the refusal.
-#[derive(Drop)]
+#[derive(Clone, Copy)]
 pub enum Answer {
     Count(usize),
     Refused(u8),

@@ -17,7 +17,7 @@ const OFFSET: usize = 5;
 
 const PLACES: usize = OFFSET + MAX_FILE;
 
-#[derive(Drop)]
+#[derive(Clone, Copy)]
 pub enum Rewritten {
     // The header gave 1 or a record gave 3: there is nothing to write.
     Unread,

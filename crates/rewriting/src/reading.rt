@@ -7,7 +7,7 @@ ghost use Rattle.rewriting.specs.Reading.{file_words, read_outcome, read_of};
 use exchange::call::Call;
 use records::record::{Record, STEP_MARK, TERM_MARK, read_record};
 
-#[derive(Drop)]
+#[derive(Clone, Copy)]
 pub enum WordsRead {
     // so many words
     Count(usize),

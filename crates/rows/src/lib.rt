@@ -1,5 +1,7 @@
 // The rows of the table of runs, lent as one slice. A row is seven words: role, stage, a, b, k, ts, ta; row r starts at word
 // 7 * r. Nothing else knows how a row lies in the table.
+#![tactic(auto)]
+
 ghost use Rattle.std.specs.Prelude.{◌≡◌, ◌<◌, length};
 ghost use Rattle.exchange.specs.Needs.{role_number, stage_number};
 ghost use Rattle.rows.specs.Row.{width, role_of, stage_of, row_of, words_of, is_row};

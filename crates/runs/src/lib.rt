@@ -1,2 +1,4 @@
 // Which tables of runs hold together.
+#![tactic(auto)]
+
 pub mod lent;

@@ -1,5 +1,7 @@
 // Sending: the terms of a step's messages are added to the term table, all or none, and the messages are put on the wire. What is
 // to be written is planned first, and the plan is written whole.
+#![tactic(auto)]
+
 ghost use Rattle.std.specs.Prelude.{[], ◌∷◌, ◌≡◌, ◌+◌, ◌≤◌, length};
 ghost use Rattle.drafts.specs.Draft.{draft_message};
 ghost use Rattle.messages.specs.Plan.{with_plan};
@@ -11,14 +13,14 @@ use marks::mark;
 use messages::plan::{plan_node, write_plan};
 
 // The numbers of the messages that go onto the wire.
-#[derive(Drop)]
+#[derive(Clone, Copy)]
 pub enum Marks {
     Two { first: u16, last: u16 },
     Nothing,
 }
 
 // What sending writes beside the planned words: how many they are, and marks.
-#[derive(Drop)]
+#[derive(Clone, Copy)]
 pub struct Prepared {
     pub count: usize,
     pub marks: Marks,

@@ -1,5 +1,7 @@
 // A step by its row of the step table: its fields, the run that it names, its message, and what it does. Whether the intruder can deliver
 // its message, 15, and whether its terms fit, 20, is looked at by the crate above.
+#![tactic(auto)]
+
 ghost use Rattle.std.specs.Prelude.{◌≡◌};
 ghost use Rattle.realm.specs.Tables.{tables};
 ghost use Rattle.decisions.specs.Decision.{opens_run, ticks, step_of, decided};

@@ -12,7 +12,7 @@ use marks::is_marked;
 use words::{Term, decode};
 
 // A term's operands.
-#[derive(Drop)]
+#[derive(Clone, Copy)]
 pub enum Operands {
     Two(u16, u16),
     Atom,

@@ -26,7 +26,7 @@ fn tables_hold(terms: &[u64], count: usize, n: u16, wire: &[u64]) -> bool
     is_within(load(wire), count)
 }
 
-#[derive(Drop)]
+#[derive(Clone, Copy)]
 pub enum Answer {
     Derivable,
     Underivable,

@@ -1,4 +1,6 @@
 // The term rules: which word may stand as term number `at` in a realm of n principals.
+#![tactic(auto)]
+
 ghost use Rattle.std.specs.Prelude.{◌≡◌, ◌≤◌, length};
 ghost use Rattle.terms.specs.Rules.{is_key, spare, fields_ok, refusal_of};
 

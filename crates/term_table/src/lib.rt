@@ -1,5 +1,7 @@
 // The term table, searched and added to: the first `count` of 512 lent words, each a term. These calls are for callers that know
 // that the table holds together.
+#![tactic(auto)]
+
 ghost use Rattle.std.specs.Prelude.{◌≡◌, ◌≤◌, length};
 ghost use Rattle.terms.specs.Add.{add_outcome, add_of};
 ghost use Rattle.terms.specs.Table.{find_of};

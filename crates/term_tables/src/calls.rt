@@ -9,7 +9,7 @@ use terms::table::Added;
 const PRINCIPALS: u16 = 3;
 
 // The table has a place more than it should.
-#[derive(Drop)]
+#[derive(Clone, Copy)]
 pub struct Table {
     pub terms: [u64; 513],
     pub count: usize,

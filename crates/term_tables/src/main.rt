@@ -12,6 +12,8 @@
 //   F  kind, L, R: finds a term
 //   A  kind, L, R: adds a term
 //   M  a node of the draft: adds its message
+#![tactic(auto)]
+
 mod calls;
 mod show;
 

@@ -3,13 +3,13 @@
 // Terms in a table at most.
 pub const MAX_TERMS: usize = 512;
 
-#[derive(Drop)]
+#[derive(Clone, Copy)]
 pub enum Found {
     At(usize),
     Nothing,
 }
 
-#[derive(Drop)]
+#[derive(Clone, Copy)]
 pub enum Added {
     // It stands at this place already.
     Old(usize),

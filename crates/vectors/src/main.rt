@@ -3,6 +3,8 @@
 //
 // The list of them is the file `files`: on its first line the number of walks, then for each the name of its walk file and,
 // on the next line, that of its listing.
+#![tactic(auto)]
+
 ghost use Rattle.std.specs.Prelude.{◌≡◌, ◌<◌, ◌≤◌, length};
 ghost use Rattle.io.specs.Counts.{IsPrefixLen};
 ghost use Rattle.comparison.specs.Compare.{is_same};
@@ -63,7 +65,7 @@ fn agrees(walk: &[u8], file: &[u8], listing: &[u8]) -> bool {
 }
 
 // What came of a walk: whether its listing agrees, whether its file was written back, and whether as it is.
-#[derive(Drop)]
+#[derive(Clone, Copy)]
 struct Seen {
     agrees: bool,
     written: bool,
@@ -98,7 +100,7 @@ fn line_after(list: &[u8], at: usize) -> usize
     if end < list.len() { end + 1 } else { end }
 }
 
-#[derive(Drop)]
+#[derive(Clone, Copy)]
 struct Results {
     listings: Totals,
     writings: Totals,

@@ -1,5 +1,7 @@
 // What a taken step writes, made from its values: one function for steps 1 and 2, one each for 3 to 6, one for the others. None has a
 // slice, so a value of some twenty fields is carried through no proof of a function that lends tables.
+#![tactic(auto)]
+
 ghost use Rattle.std.specs.Prelude.{◌≡◌};
 ghost use Rattle.exchange.specs.declared.run.Stage.TheVariants.{Opened};
 ghost use Rattle.decisions.specs.declared.Verdict.TheVariants.{Takes as Taking};

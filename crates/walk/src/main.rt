@@ -1,4 +1,6 @@
 // Lists the walk file on standard input: a line for each record, and a last one, on standard output.
+#![tactic(auto)]
+
 use input::read_behind;
 use libc::{STDIN_FILENO, STDOUT_FILENO};
 use walkfile::{LISTING_BYTES, Listing, list};

@@ -1,4 +1,6 @@
 // A walk file's bytes to its listing: the header, then the calls of its records on tables of its own, a line for each.
+#![tactic(auto)]
+
 ghost use Rattle.std.specs.Prelude.{◌≡◌, ◌≤◌, length};
 ghost use Rattle.fields.specs.Placed.{Wrote};
 ghost use Rattle.walkfile.specs.Walking.{Walkable};
@@ -19,7 +21,7 @@ use synthesis::knowledge::KNOWN_WORDS;
 pub const LISTING_BYTES: usize = 224758;
 
 // How many bytes of the buffer are the listing's; or the buffer is shorter than LISTING_BYTES.
-#[derive(Drop)]
+#[derive(Clone, Copy)]
 pub enum Listing {
     Written(usize),
     NoRoom,

@@ -1,4 +1,6 @@
 // A term is one word: kind * 2^32 + L * 2^16 + R.
+#![tactic(auto)]
+
 ghost use Rattle.std.specs.Prelude.{◌≡◌, ◌+◌, ◌*◌};
 ghost use Rattle.words.specs.Word.{packed, term_of, word_of};
 
@@ -18,7 +20,7 @@ pub const PAIR: u64 = 5;
 pub const ENCRYPTED: u64 = 6;
 
 // A term taken apart. The operands of a pair and of an encryption (body, then key) are numbers of terms.
-#[derive(Drop)]
+#[derive(Clone, Copy)]
 pub enum Term {
     Principal(u16),
     Time(u32),

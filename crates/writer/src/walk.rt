@@ -16,7 +16,7 @@ use records::header::{MAX_FILE, header_width};
 
 pub const REFUSE_ROOM: u8 = 21;
 
-#[derive(Drop)]
+#[derive(Clone, Copy)]
 pub enum Filing {
     // bytes from the offset on
     Written(usize),
