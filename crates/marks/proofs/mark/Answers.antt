@@ -7,20 +7,13 @@ use lib.Bits.{bit_or}
 use lib.Dec.{lit<}
 use lib.ListN.{get_or, set}
 use lib.Pow.{shl_exact}
-use borrow.Author.Rules.{rules}
 use Rattle.marks.specs.Bits.{set_bit}
 use Rattle.marks.specs.Marks.{with_mark}
-use Rattle.marks.proofs.mark.Statement.{statement}
-use Rattle.marks.proofs.mark.Tie as tie
+use Rattle.marks.proofs.mark.Goals as goal
 
-returns : tie.Need-returns
+pub returns : goal.returns
 unfolding with_mark set_bit
 returns c =
-    let a = c.before.args in
+    let a = c.args in
     ap (λ (m : ℕ). set a.set.now (a.i / 64) (bit_or (get_or a.set.now (a.i / 64) 0) m))
     (shl_exact 1 (a.i % 64) 64 (lit< tt) (omega arith) ∙ one-mul _)
-
-pub mark_spec : {M : Type 1} → statement M
-mark_spec =
-    tie.close
-    (tie.spec (λ c. search rules) (λ c. search rules) (λ c. search rules) (λ c. search rules) (λ c. search rules) (λ c. search rules) returns)

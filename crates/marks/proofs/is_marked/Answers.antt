@@ -4,17 +4,12 @@ use Prim.Native.Nat.{ℕ, ◌/◌, ◌%◌, ◌^◌}
 use lib.Bits.{and_mask}
 use lib.Dec.{eqb}
 use lib.ListN.{get_or}
-use borrow.Author.Rules.{rules}
 use Rattle.marks.specs.Bits.{bit}
 use Rattle.marks.specs.Marks.{marked, mark}
-use Rattle.marks.proofs.is_marked.Statement.{statement}
-use Rattle.marks.proofs.is_marked.Tie as tie
+use Rattle.marks.proofs.is_marked.Goals as goal
 
-returns : tie.Need-returns
+pub returns : goal.returns
 unfolding marked mark bit
 returns c =
-    let a = c.before.args in
+    let a = c.args in
     ap (λ (b : ℕ). eqb b 1) (and_mask (get_or a.set.now (a.i / 64) 0 / 2 ^ (a.i % 64)) 1)
-
-pub is-marked-spec : {M : Type 1} → statement M
-is-marked-spec = tie.close (tie.spec (λ c. search rules) (λ c. search rules) (λ c. search rules) returns)

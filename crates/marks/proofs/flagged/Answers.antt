@@ -5,22 +5,17 @@ use native.Mathlib.Omega.{arith}
 use borrow.Author.Tests.{ne_eqb}
 use lib.Bits.{and_mask}
 use lib.Dec.{eqb}
-use borrow.Author.Rules.{rules}
 use Rattle.marks.specs.Bits.{bit}
 use Rattle.marks.proofs.Bits.{bit_past}
 use Rattle.marks.specs.Marks.{is_set}
-use Rattle.marks.proofs.flagged.Statement.{statement}
-use Rattle.marks.proofs.flagged.Tie as tie
+use Rattle.marks.proofs.flagged.Goals as goal
 
-returns : tie.Need-returns
+pub returns-then-p-ge32 : goal.returns-then-p-ge32
 unfolding is_set
-returns c =
-    let a = c.before.args in
+returns-then-p-ge32 c =
+    let a = c.args in
     sym (ne_eqb (bit a.flags a.p) 1 (λ e. omega (arith, bit_past 32 a.flags a.p (omega arith) (omega arith))))
 
-returns-2 : tie.Need-returns-2
+pub returns : goal.returns
 unfolding is_set bit
-returns-2 c = ap (λ (b : ℕ). eqb b 1) (and_mask (c.before.args.flags / 2 ^ c.before.args.p) 1)
-
-pub flagged-spec : {M : Type 1} → statement M
-flagged-spec = tie.close (tie.spec returns (λ c. search rules) returns-2)
+returns c = ap (λ (b : ℕ). eqb b 1) (and_mask (c.args.flags / 2 ^ c.args.p) 1)
