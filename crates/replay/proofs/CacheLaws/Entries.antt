@@ -100,6 +100,7 @@ module _ (e : Entry) where
   -- present are the members
   pub present_of : (xs : List Entry) → Memᴰ e xs → present xs e ≡ true
   unfolding present
+  present_of [] x' = elim x' [ ]
   present_of (x ∷ xs) (Memᴰ.head h) = rw (← h, same_refl e)
   present_of (x ∷ xs) (Memᴰ.tail m) = on (same x e) (present_of xs m)
     where
@@ -137,6 +138,7 @@ module _ (q : Entry → Bool) where
 
   -- what is kept: the members that pass the test
   pub filter_of : (xs : List Entry) {x : Entry} → Memᴰ x xs → q x ≡ true → Memᴰ x (filter q xs)
+  filter_of [] {x = x} x4 t = elim x4 [ ]
   filter_of (y ∷ ys) {x} (Memᴰ.head h) t = rw (← h, t) (Memᴰ.head refl)
   filter_of (y ∷ ys) {x} (Memᴰ.tail m) t = on (q y) (filter_of ys m t)
     where
@@ -145,6 +147,7 @@ module _ (q : Entry → Bool) where
       on false k = k
 
   pub of_filter : (xs : List Entry) {x : Entry} → Memᴰ x (filter q xs) → Memᴰ x xs × (q x ≡ true)
+  of_filter [] {x = x} m = elim m [ ]
   of_filter (y ∷ ys) {x} m = on (q y) refl (of_filter ys) m
     where
       past : Memᴰ x ys × (q x ≡ true) → Memᴰ x (y ∷ ys) × (q x ≡ true)

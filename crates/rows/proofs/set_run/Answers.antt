@@ -1,0 +1,6 @@
+-- `rows::set_run` meets its contract: the part lent comes back as the row's words. Assumes nothing.
+use Rattle.rows.proofs.Runs.{written_part}
+use Rattle.rows.proofs.set_run.Goals as goal
+
+pub returns : goal.returns
+returns c = written_part _ _ _ _ c.encode.ensures
