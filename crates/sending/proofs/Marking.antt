@@ -40,6 +40,7 @@ module _ (xs : List ℕ) where
       (marked_keeps ws (number_in xs m) (omega (arith, here m ms p)) i k)
 
   pub all_added : (ws : List ℕ) (ms : List Message) → length ws ≡ 8 → Placed xs ms → (m : Message) → Memᴰ m ms → marked (marked_all ws xs ms) (number_in xs m) ≡ true
+  all_added ws [] w p x x4 = elim x4 [ ]
   all_added ws (m ∷ ms) w p x (Memᴰ.head e) =
       rw e
       (all_keeps (with_mark ws (number_in xs m)) ms (with_length ws (number_in xs m) ∙ w) (rest m ms p) (number_in xs m)
