@@ -82,5 +82,7 @@ abbrev pub after : {A : Type 0} → (Message → Option A) → Option (ℕ × Me
 after s none = none
 after s (some (v, x)) = given (s x) none (λ w. some (v, w))
 
+-- a layer, and then what is left
+infixr 5 ◌▸◌
 unfoldable pub ◌▸◌ : {A : Type 0} → (Message → Option (ℕ × Message)) → (Message → Option A) → Message → Option (ℕ × A)
 ◌▸◌ l s m = after s (l m)

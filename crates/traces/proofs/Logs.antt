@@ -21,6 +21,7 @@ pub record Past {Event : Type 0} (Adds : Log Event → Act Event → Type 0) (l 
 
 past_at : {Event : Type 0} {Adds : Log Event → Act Event → Type 0} {l : Log Event} {e : Event} {ms : List Message}
     → Trace Adds l → (e, ms) ∈ l → Past Adds l e
+past_at {Event = Event} {Adds = Adds} {e = e} {ms = ms} Rattle.traces.specs.Logs.start x3 = elim x3 [ ]
 past_at (add w t) here = record { then = _; point = before now; sent = _; adds = t }
 past_at (add w t) (there i) = let p = past_at w i in record { then = p.then; point = before p.point; sent = p.sent; adds = p.adds }
 

@@ -94,6 +94,7 @@ module _ {Event Run : Type 0} {Adds : Log Event → Act Event → Type 0} {runs 
   stay (rested o same) r h = rw same h
 
   recorded_at : {l : Log Event} {e : Event} {ms : List Message} {r : ℕ} → Trace Adds l → (e, ms) ∈ l → of e ≡ some r → e ∈ story r (get_elem? (runs l) r)
+  recorded_at {e = e} {ms = ms} {r = r} start x5 h = elim x5 [ ]
   recorded_at (add w t) here h = arrive (T.effect t) h
   recorded_at (add {a = (e, ms)} w t) (there i) h = stay (T.effect t) _ (recorded_at w i h)
 
