@@ -28,6 +28,7 @@ in_tail f here = here
 in_tail f (there i) = there (f i)
 
 of_kept : {x : Entry} (b t life : ℕ) (c : List Entry) → x ∈ forget b t life c → x ∈ c
+of_kept b t life [] i = elim i [ ]
 of_kept b t life (entry b' k ta ∷ c) i =
     in_tail (of_kept b t life c) (passed (eqb b' b && leb (ta + life) t) (entry b' k ta) (forget b t life c) i)
 
@@ -40,6 +41,7 @@ record Newest (e : Event) (b k ta : ℕ) : Type 0 where
   is : e ≡ Accept r a b k ts ta
 
 in_split : {x y : Entry} (c : List Entry) → x ∈ (c ++ (y ∷ [])) → (x ∈ c) ⊎ (x ≡ y)
+in_split {y = y} [] (there i) = elim i [ ]
 in_split [] here = inr refl
 in_split (z ∷ c) here = inl here
 in_split (z ∷ c) (there i) = ⊎_elim (λ j. inl (there j)) inr (in_split c i)
@@ -74,6 +76,7 @@ accepted_later : {l : Log} {e : Event} {ms : List Message} {b k ta : ℕ} → Ac
 accepted_later p = record { at = p.at; point = before p.point; r = p.r; a = p.a; ts = p.ts; accepts = p.accepts }
 
 logged : {b k ta : ℕ} (R : Realm) (l : Log) → entry b k ta ∈ cache R l → Accepted l b k ta
+logged {b = b} {k = k} {ta = ta} R [] i = elim i [ ]
 logged R ((e, ms) ∷ l) i = ⊎_elim (λ j. accepted_later (logged R l j)) accepted_now (came R (clock l) e (cache R l) i)
 
 -- ---- and of the list of calls

@@ -46,6 +46,9 @@ module _ (R : Realm) (X : ℕ → Type 0) (l : Log) where
       → m ∈ issue f k a b ts n
       → Fine f m
   issue_fine Parallel k a b ts n p t here = p
+  issue_fine Parallel k a b ts n p t (there (there x13)) = elim x13 [ ]
+  issue_fine Kerberos5 k a b ts n p t (there x9) = elim x9 [ ]
+  issue_fine Kerberos4 k a b ts n p t (there x10) = elim x10 [ ]
   issue_fine Parallel k a b ts n p t (there here) = t
   issue_fine Kerberos5 k a b ts n p t here = (p, t)
   issue_fine Kerberos4 k a b ts n p t here = p
@@ -60,6 +63,9 @@ module _ (R : Realm) (X : ℕ → Type 0) (l : Log) where
   pub presented_fine : (f : Form) (a b k ts n ta : ℕ) (x : Message) {m : Message} → Tickets f → Fine f (grant f k b ts n a x) → Fine f (authenticator a ta k)
       → m ∈ presented f a ta k x
       → Fine f m
+  presented_fine Parallel a b k ts n ta x tickets g h (there x11) = elim x11 [ ]
+  presented_fine Kerberos5 a b k ts n ta x tickets g h (there x12) = elim x12 [ ]
+  presented_fine Kerberos4 a b k ts n ta x tickets g h (there x13) = elim x13 [ ]
   presented_fine Parallel a b k ts n ta x tickets g h here = h
   presented_fine Kerberos5 a b k ts n ta x tickets g h here = (g.1, h)
   presented_fine Kerberos4 a b k ts n ta x tickets g h here =

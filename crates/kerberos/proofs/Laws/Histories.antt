@@ -6,10 +6,10 @@ use Rattle.std.proofs.Math.Option.{Option, some}
 use Rattle.exchange.specs.declared.call.Call.{Call}
 use Rattle.traces.specs.Realm.{Realm}
 use Rattle.traces.specs.Lists.{here, ◌⊑◌}
-use Rattle.traces.specs.Logs.{Did, did, add}
+use Rattle.traces.specs.Logs.{Did, did, add, start}
 use Rattle.traces.proofs.Logs.{did_later, trace_at}
 use Rattle.traces.specs.Terms.{given}
-use Rattle.traces.specs.RuleSets.{History, Reading, taken}
+use Rattle.traces.specs.RuleSets.{History, Reading, taken, refused}
 use Rattle.traces.proofs.Laws.Histories.{log_point, trace_of}
 use Rattle.exchange.specs.declared.form.Form.{Form}
 use Rattle.kerberos.specs.Log.{Event, Accept, Act, Log, clock}
@@ -32,6 +32,18 @@ pub accepted_live : {f : Form} {R : Realm} {l : Log} {r a b k ts ta : ℕ}
     → Trace f R l
     → Accepts l r a b k ts ta
     → (clock l < ts + R.ticket_life) × (clock l < ta + R.auth_life) × (ta ≤ clock l + R.auth_life)
+accepted_live {R = R} start x3 = elim x3 [ ]
+accepted_live {R = R} (add w refused) x8 = elim x8 [ ]
+accepted_live {R = R} (add w (taken (takes_term _ _ _))) x25 = elim x25 [ ]
+accepted_live {R = R} (add w (taken (takes1 _ _ _ _))) x27 = elim x27 [ ]
+accepted_live {R = R} (add w (taken (takes2 _ _ _))) x25 = elim x25 [ ]
+accepted_live {R = R} (add w (taken (takes3 _ _ _ _))) x29 = elim x29 [ ]
+accepted_live {R = R} (add w (taken (takes4 _ _ _ _ _ _))) x35 = elim x35 [ ]
+accepted_live {R = R} (add w (taken (takes6 _ _ _))) x28 = elim x28 [ ]
+accepted_live {R = R} (add w (taken (takes7 _))) x23 = elim x23 [ ]
+accepted_live {R = R} (add w (taken (takes8 _))) x24 = elim x24 [ ]
+accepted_live {R = R} (add w (taken (takes9 _))) x25 = elim x25 [ ]
+accepted_live {R = R} (add w (taken (takes10 _))) x29 = elim x29 [ ]
 accepted_live (add w (taken (takes5 e d t u v n s z))) accepts5 = (t, u, v)
 
 abbrev partner_later : {p l : Log} {A B k ts ta : ℕ} → p ⊑ l → Partner p A B k ts ta → Partner l A B k ts ta

@@ -7,7 +7,7 @@ use Rattle.std.proofs.Math.Bool.{and-eq-true_iff}
 use Rattle.terms.specs.Message.{Message}
 use Rattle.traces.specs.Realm.{Realm}
 use Rattle.traces.specs.Lists.{◌∈◌, here, there}
-use Rattle.traces.specs.Logs.{Did, did, add}
+use Rattle.traces.specs.Logs.{start, Did, did, add}
 use Rattle.traces.specs.RuleSets.{Entry, entry, refused, taken}
 use Rattle.exchange.specs.declared.form.Form.{Form}
 use Rattle.kerberos.specs.Log.{Event, Accept, Log, forget, cache, clock}
@@ -67,6 +67,7 @@ stays b k ta (taken (takes10 d)) h = h
 
 remembered : {f : Form} {R : Realm} {l : Log} {r a b k ts ta : ℕ} {ms : List Message} → Trace f R l → (Accept r a b k ts ta, ms) ∈ l → Remembered R l b k ta
 unfolding Remembered
+remembered start i = elim i [ ]
 remembered {R = R} {r = r} {a = a} {b = b} {k = k} {ts = ts} {ta = ta} {ms = ms} (add {l = l} w t) here = inl (accept_remembers R l ms r a b k ts ta)
 remembered (add {a = (e, ms)} w t) (there i) = stays _ _ _ t (remembered w i)
 
@@ -80,15 +81,18 @@ fresh : {f : Form} {R : Realm} {l : Log} {r a b k ts ta r' a' ts' : ℕ} {ms ms'
 unfolding Remembered
 fresh w (taken (takes5 e d t u v n s f)) i = ⊎_elim n (λ o. omega arith) (remembered w i)
 
-once : {f : Form} {R : Realm} {l : Log} {r a b k ts ta r' a' ts' : ℕ} {ms ms' : List Message}
+once : {f : Form} {R : Realm} {l : Log} {r a b k ts ta r' a' b' k' ts' ta' : ℕ} {ms ms' : List Message}
     → Trace f R l
     → (Accept r a b k ts ta, ms) ∈ l
-    → (Accept r' a' b k ts' ta, ms') ∈ l
+    → (Accept r' a' b' k' ts' ta', ms') ∈ l
+    → b ≡ b'
+    → k ≡ k'
+    → ta ≡ ta'
     → r ≡ r'
-once w here here = refl
-once (add w t) here (there j) = absurd (fresh w t j)
-once (add w t) (there i) here = absurd (fresh w t i)
-once (add w t) (there i) (there j) = once w i j
+once w here here p q s = refl
+once (add w t) here (there j) p q s = absurd (fresh w t (rw (← p, ← q, ← s) at j))
+once (add w t) (there i) here p q s = absurd (fresh w t (rw (p, q, s) at i))
+once (add w t) (there i) (there j) p q s = once w i j p q s
 
 pub accept_once : {f : Form} {R : Realm} {l : Log} {r a b k ts ta r' a' ts' : ℕ} → Trace f R l → Did l (Accept r a b k ts ta) → Did l (Accept r' a' b k ts' ta) → r ≡ r'
-accept_once w (did i) (did j) = once w i j
+accept_once w (did i) (did j) = once w i j refl refl refl

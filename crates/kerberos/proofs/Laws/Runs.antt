@@ -73,6 +73,13 @@ data Tells (r : ℕ) : Option Run → Event → Type 0 where
   issued : {a b k ts n : ℕ} → Tells r (some (server_done a b k ts n)) (Issue r a b ts n)
 
 tells : {r : ℕ} {e : Event} (x : Option Run) → e ∈ story r x → Tells r x e
+tells none x'' = elim x'' [ ]
+tells (some (initiator_opened a b)) (there x10) = elim x10 [ ]
+tells (some (initiator_authenticated a b k ts ta)) (there (there x16)) = elim x16 [ ]
+tells (some (initiator_done a b k ts ta)) (there (there (there x22))) = elim x22 [ ]
+tells (some (responder_opened a b)) (there x13) = elim x13 [ ]
+tells (some (responder_done a b k ts ta)) (there (there x19)) = elim x19 [ ]
+tells (some (server_done a b k ts n)) (there x15) = elim x15 [ ]
 tells (some (initiator_opened a b)) here = opened_initiate
 tells (some (initiator_authenticated a b k ts ta)) here = authenticated
 tells (some (initiator_authenticated a b k ts ta)) (there here) = authenticated_initiate
@@ -92,34 +99,38 @@ data Opens (r : ℕ) : Event → ℕ → Type 0 where
 
 -- ---- what one row tells
 
-issue_same : {r a b ts n a' b' ts' n' : ℕ} {x : Option Run}
-    → Tells r x (Issue r a b ts n)
-    → Tells r x (Issue r a' b' ts' n')
+issue_same : {r s s' a b ts n a' b' ts' n' : ℕ} {x : Option Run}
+    → Tells r x (Issue s a b ts n)
+    → Tells r x (Issue s' a' b' ts' n')
     → (a ≡ a') × (b ≡ b') × (ts ≡ ts') × (n ≡ n')
 issue_same issued issued = (refl, refl, refl, refl)
 
-authenticate_same : {r a b k ts ta a' b' k' ts' ta' : ℕ} {x : Option Run}
-    → Tells r x (Authenticate r a b k ts ta)
-    → Tells r x (Authenticate r a' b' k' ts' ta')
+authenticate_same : {r s s' a b k ts ta a' b' k' ts' ta' : ℕ} {x : Option Run}
+    → Tells r x (Authenticate s a b k ts ta)
+    → Tells r x (Authenticate s' a' b' k' ts' ta')
     → ta ≡ ta'
 authenticate_same authenticated authenticated = refl
 authenticate_same done_authenticate done_authenticate = refl
 
-authenticate_initiate : {r a b k ts ta : ℕ} {x : Option Run} → Tells r x (Authenticate r a b k ts ta) → Initiate r a b ∈ story r x
+authenticate_initiate : {r s a b k ts ta : ℕ} {x : Option Run} → Tells r x (Authenticate s a b k ts ta) → Initiate s a b ∈ story r x
 authenticate_initiate authenticated = there here
 authenticate_initiate done_authenticate = there (there here)
 
-accept_respond : {r a b k ts ta : ℕ} {x : Option Run} → Tells r x (Accept r a b k ts ta) → Respond r a b ∈ story r x
+accept_respond : {r s a b k ts ta : ℕ} {x : Option Run} → Tells r x (Accept s a b k ts ta) → Respond s a b ∈ story r x
 accept_respond accepted = there here
 
-authenticate_opens : {r a b k ts ta p : ℕ} {x : Option Run} {e : Event} → Tells r x (Authenticate r a b k ts ta) → Tells r x e → Opens r e p → p ≡ a
+authenticate_opens : {r s s' a b k ts ta p : ℕ} {x : Option Run} {e : Event} → Tells r x (Authenticate s a b k ts ta) → Tells r x e → Opens s' e p → p ≡ a
+authenticate_opens authenticated authenticated x30 = elim x30 [ ]
+authenticate_opens done_authenticate done_authenticate x31 = elim x31 [ ]
+authenticate_opens done_authenticate done x32 = elim x32 [ ]
 authenticate_opens authenticated authenticated_initiate by1 = refl
 authenticate_opens done_authenticate done_initiate by1 = refl
 
-accept_opens : {r a b k ts ta p : ℕ} {x : Option Run} {e : Event} → Tells r x (Accept r a b k ts ta) → Tells r x e → Opens r e p → p ≡ b
+accept_opens : {r s s' a b k ts ta p : ℕ} {x : Option Run} {e : Event} → Tells r x (Accept s a b k ts ta) → Tells r x e → Opens s' e p → p ≡ b
+accept_opens accepted accepted x30 = elim x30 [ ]
 accept_opens accepted accepted_respond by2 = refl
 
-apart : {r a b k ts ta a' b' : ℕ} {x : Option Run} → Tells r x (Accept r a b k ts ta) → Tells r x (Initiate r a' b') → ⊥
+apart : {r s s' a b k ts ta a' b' : ℕ} {x : Option Run} → Tells r x (Accept s a b k ts ta) → Tells r x (Initiate s' a' b') → ⊥
 apart accepted h = elim h [ ]
 
 -- ---- what a log holds
