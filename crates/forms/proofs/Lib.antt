@@ -1,4 +1,4 @@
-pub mod Delivery
-pub mod Forms
-pub mod Grant
+pub mod DeliveryLaws
+pub mod FormsLaws
+pub mod GrantLaws
 pub mod Promises

@@ -14,11 +14,11 @@ use Rattle.forms.specs.declared.Delivery.TheVariants as deliveries
 use Rattle.forms.specs.declared.Request.TheVariants as requests
 use Rattle.forms.specs.declared.Ticket.TheVariants as tickets
 use Rattle.forms.specs.Delivery.{ticket_in, authenticator_in, delivery_in}
-use Rattle.forms.proofs.Delivery.Laws.{ticket_form_lem, authenticator_form_lem, delivery_form}
+use Rattle.forms.proofs.DeliveryLaws.{ticket_form_lem, authenticator_form_lem, delivery_form}
 use Rattle.forms.specs.Forms.{request_in, confirmation_in}
-use Rattle.forms.proofs.Forms.Laws.{request_form_lem, confirmation_form_lem}
+use Rattle.forms.proofs.FormsLaws.{request_form_lem, confirmation_form_lem}
 use Rattle.forms.specs.Grant.{Is, grant_in}
-use Rattle.forms.proofs.Grant.Laws.{grant_form}
+use Rattle.forms.proofs.GrantLaws.{grant_form}
 
 module _ (m : Message) where
   pub is_request : (a b n : ℕ) → (request_in m ≡ requests.Is a b n) ↔ (m ≡ request a b n)

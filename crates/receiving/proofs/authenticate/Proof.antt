@@ -8,7 +8,7 @@ use Rattle.terms.specs.Meaning.{message_at}
 use Rattle.exchange.specs.declared.form.Form.{Form}
 use Rattle.exchange.specs.Forms.{form_of}
 use Rattle.forms.specs.Grant.{grant_in, Grants}
-use Rattle.forms.proofs.Grant.Laws.{granted}
+use Rattle.forms.proofs.GrantLaws.{granted}
 use Rattle.forms.specs.declared.Grant.TheVariants as grants
 use Rattle.conditions.specs.Conditions.{derivable_at}
 use Rattle.decisions.specs.Decision.{need}
