@@ -1,18 +1,20 @@
 -- What follows from the definitions of the same name in specs/.
 -- Assumes nothing.
-use Rattle.std.specs.Prelude.{ℕ, ◌<◌, ◌≡◌, refl, Bool, true, false, ◌&&◌, cond, [], leb}
+use Rattle.std.specs.Prelude.{ℕ, ◌<◌, ◌≤◌, ◌≡◌, refl, Bool, true, false, ◌&&◌, cond, [], leb}
 use Rattle.std.proofs.Common.{sym, arith}
 use borrow.Author.Tests.{le-leb, lt-leb, leb-true}
 use Rattle.std.proofs.Math.Bool.{and-eq-true_iff}
 use Rattle.std.proofs.Math.ListN.{get_or-eq_default}
 use Rattle.realm.specs.declared.header.Realm.{Realm}
 use Rattle.realm.specs.declared.input.Step.{Step}
-use Rattle.realm.specs.Input.{none, uses_table, uses_of, unused_zero, in_range, input_refusal, step, passes, InputPassed}
+use Rattle.realm.specs.Input.{none, uses_table, uses_of, unused_zero, in_range, input_refusal, InputPassed}
 
 -- a number that is no step uses no field
 pub past_uses : (step : ℕ) → 10 < step → uses_of step ≡ none
 unfolding uses_table
 past_uses step h = get_or-eq_default uses_table none h
+
+-- ---- by the way out
 
 module _ (h : Realm) (s : Step) where
   pub no_step_below : s.step < 1 → ◌≡◌ {A = ℕ} 4 (input_refusal h s)
@@ -22,6 +24,23 @@ module _ (h : Realm) (s : Step) where
   pub no_step_above : 10 < s.step → ◌≡◌ {A = ℕ} 4 (input_refusal h s)
   unfolding input_refusal
   no_step_above l = rw (le-leb 1 s.step (omega arith), lt-leb s.step 10 l)
+
+  module _ (low : 1 ≤ s.step) (high : s.step ≤ 10) where
+    step : (leb 1 s.step && leb s.step 10) ≡ true
+    step = rw (le-leb 1 s.step low, le-leb s.step 10 high)
+
+    pub not_zero : unused_zero (uses_of s.step) s ≡ false → ◌≡◌ {A = ℕ} 5 (input_refusal h s)
+    unfolding input_refusal
+    not_zero e = rw (step, e)
+
+    module _ (zero : unused_zero (uses_of s.step) s ≡ true) where
+      pub not_in_range : in_range h (uses_of s.step) s ≡ false → ◌≡◌ {A = ℕ} 6 (input_refusal h s)
+      unfolding input_refusal
+      not_in_range e = rw (step, zero, e)
+
+      pub passes : in_range h (uses_of s.step) s ≡ true → ◌≡◌ {A = ℕ} 0 (input_refusal h s)
+      unfolding input_refusal
+      passes e = rw (step, zero, e)
 
 all_three : (a b c : Bool) → ◌≡◌ {A = ℕ} (cond a (cond b (cond c 0 6) 5) 4) 0 → (a ≡ true) × (b ≡ true) × (c ≡ true)
 all_three true true true e = (refl, refl, refl)

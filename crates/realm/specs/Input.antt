@@ -65,26 +65,6 @@ unfoldable pub input_refusal : Realm → Step → ℕ
 input_refusal h s =
     cond (leb 1 s.step && leb s.step 10) (cond (unused_zero (uses_of s.step) s) (cond (in_range h (uses_of s.step) s) 0 6) 5) 4
 
--- ---- by the way out
-
-module _ (h : Realm) (s : Step) where
-  pub module _ (low : 1 ≤ s.step) (high : s.step ≤ 10) where
-    step : (leb 1 s.step && leb s.step 10) ≡ true
-    step = rw (le-leb 1 s.step low, le-leb s.step 10 high)
-
-    pub not_zero : unused_zero (uses_of s.step) s ≡ false → ◌≡◌ {A = ℕ} 5 (input_refusal h s)
-    unfolding input_refusal
-    not_zero e = rw (step, e)
-
-    module _ (zero : unused_zero (uses_of s.step) s ≡ true) where
-      pub not_in_range : in_range h (uses_of s.step) s ≡ false → ◌≡◌ {A = ℕ} 6 (input_refusal h s)
-      unfolding input_refusal
-      not_in_range e = rw (step, zero, e)
-
-      pub passes : in_range h (uses_of s.step) s ≡ true → ◌≡◌ {A = ℕ} 0 (input_refusal h s)
-      unfolding input_refusal
-      passes e = rw (step, zero, e)
-
 -- ---- what a step that passes has
 
 pub record InputPassed (h : Realm) (s : Step) : Type 0 where

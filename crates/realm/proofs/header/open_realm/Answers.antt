@@ -1,0 +1,18 @@
+-- `realm::header::open_realm` meets its contract: by the row of the mark, or without one. Assumes nothing.
+use mathlib.Core.Path.{sym, ◌∙◌}
+use Rattle.exchange.specs.declared.header.Lookup.TheVariants.{Found, Missing}
+use Rattle.exchange.proofs.Laws.Formats.{most_known}
+use Rattle.realm.proofs.Opening.{by_row}
+use Rattle.realm.proofs.header.open_realm.Goals as goal
+
+pub open_under-requires : goal.open_under-requires
+open_under-requires c =
+    most_known c.args.header.mark c.in-Found.format (sym c.format_of.ensures ∙ c.in-Found.is)
+
+pub returns-in-Found : goal.returns-in-Found
+returns-in-Found c =
+    c.open_under.ensures
+    ∙ by_row c.args.header (Found c.in-Found.format) (sym c.format_of.ensures ∙ c.in-Found.is)
+
+pub returns-in-Missing : goal.returns-in-Missing
+returns-in-Missing c = by_row c.args.header Missing (sym c.format_of.ensures ∙ c.in-Missing.is)
