@@ -81,6 +81,7 @@ admission_over here = omega arith
 admission_over (there here) = omega arith
 admission_over (there (there here)) = omega arith
 admission_over (there (there (there here))) = omega arith
+admission_over (there (there (there (there (there x25))))) = elim x25 [ ]
 admission_over (there (there (there (there here)))) = omega arith
 
 of_admission : {d : Bool} (k : ℕ) → d ≡ true → (k ≡ 0) ⊎ (k ∈ admission_refusals) → (k ≡ 0) ⊎ ((k ∈ refusals_of 5) × Parted d k)
@@ -138,11 +139,13 @@ fields_number h s = by (leb 1 s.step && leb s.step 10) (unused_zero (uses_of s.s
 of_fields : {d : Bool} {k : ℕ} (step : ℕ) → k ∈ field_refusals → (k ∈ all_of step) × Parted d k
 of_fields step here = (there here, under 4 (omega arith))
 of_fields step (there here) = (there (there here), under 5 (omega arith))
+of_fields step (there (there (there x15))) = elim x15 [ ]
 of_fields step (there (there here)) = (there (there (there here)), under 6 (omega arith))
 
 not_zero : {k : ℕ} → k ∈ field_refusals → k ≡ 0 → ⊥
 not_zero here e = omega arith
 not_zero (there here) e = omega arith
+not_zero (there (there (there x16))) e = elim x16 [ ]
 not_zero (there (there here)) e = omega arith
 
 -- after a test of the run, or of room for one, or of the clock

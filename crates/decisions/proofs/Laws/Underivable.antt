@@ -52,6 +52,7 @@ of_state step (there (there (there (there i)))) = i
 fields_before : {k : ℕ} → k ∈ field_refusals → k < 15
 fields_before here = omega arith
 fields_before (there here) = omega arith
+fields_before (there (there (there x15))) = elim x15 [ ]
 fields_before (there (there here)) = omega arith
 
 module _ (t : Tables) (w : Together t) (s : Step) where
