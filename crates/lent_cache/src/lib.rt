@@ -1,6 +1,5 @@
 // The replay cache on a list of records that the caller lends. To remember, the entries are loaded, the call is made by value, and
-// the places are stored back; to forget, one pass goes over the list itself. Each function with a `&[Entry]` or a `&mut [Entry]`
-// in it is proved by a walk of its MIR, by hand.
+// the places are stored back; to forget, one pass goes over the list itself.
 #![tactic(auto)]
 
 pub mod pass; // forgetting in one pass

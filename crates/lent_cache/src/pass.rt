@@ -21,10 +21,12 @@ fn read_entry(list: &mut [Entry], left: usize, i: usize, p: Purge) -> usize
     left
 }
 
-// The pass over the first `count` places: it gives the number of those kept.
-pub fn pass_over(list: &mut [Entry], count: usize, p: Purge) -> usize
-    requires { count ≤ length list.old }
-    ensures { swept list.new result ≡ sweeping list.old count p }
+// The turns of the pass, one for each of the first `count` places; `before` is the list that each of them speaks of.
+fn read_entries(list: &mut [Entry], count: usize, p: Purge) -> usize
+    ghost before: { List Entry }
+    requires begun { list.old ≡ before }
+    requires within { count ≤ length before }
+    ensures { swept list.new result ≡ sweeping before count p }
 {
     let mut left = 0;
     let mut i = 0;
@@ -33,6 +35,14 @@ pub fn pass_over(list: &mut [Entry], count: usize, p: Purge) -> usize
         i += 1;
     }
     left
+}
+
+// The pass over the first `count` places: it gives the number of those kept.
+pub fn pass_over(list: &mut [Entry], count: usize, p: Purge) -> usize
+    requires { count ≤ length list.old }
+    ensures { swept list.new result ≡ sweeping list.old count p }
+{
+    read_entries(list, count, p)
 }
 
 // The same of sixteen places by value.
