@@ -62,7 +62,7 @@ pub known_given : (t : Tables) → Together t → (out : List ℕ) → length ou
 known_given t w out eight =
     let h = t.realm in
     ap (λ (x : ℕ × List ℕ). x.0)
-    (sym (realm_fit h t.terms t.wire out (is_realm h w.header_fits_lem w.rules_known))
+    (sym (realm_fit h t.terms t.wire out (is_realm h w.header_fits w.rules_known))
     ∙ derived_all h.n h.flags t.terms h.terms t.wire out
     (are_held h.n t.terms h.terms t.wire w.terms_hold w.wire_words.len w.wire_within) eight)
 

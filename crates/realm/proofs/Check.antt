@@ -74,11 +74,11 @@ together_is t z w places e =
     let wire = wire_is t.wire h.terms f.fourth in
     let es = entries_are h.n t.cache h.entries f.fifth in
     record {
-      header_fits_lem = r.0;
+      header_fits = r.0;
       rules_known = r.1;
       clock_fits = z.clock;
       terms_hold = holds_valid h.n t.terms h.terms f.second;
-      rows_hold_lem = (rows_decided h.n t.runs h.runs t.terms h.terms).0 f.third;
+      rows_hold = (rows_decided h.n t.runs h.runs t.terms h.terms).0 f.third;
       wire_words = record { len = wire.0; fit = w };
       wire_within = wire.1;
       places = places;
@@ -91,9 +91,9 @@ unfolding together
 is_together t f =
     let h = t.realm in
     rw (
-      is_realm h f.header_fits_lem f.rules_known,
+      is_realm h f.header_fits f.rules_known,
       valid_holds f.terms_hold,
-      (rows_decided h.n t.runs h.runs t.terms h.terms).1 f.rows_hold_lem,
+      (rows_decided h.n t.runs h.runs t.terms h.terms).1 f.rows_hold,
       sym (eight_words t.wire h.terms f.wire_words.len),
       is_within t.wire h.terms f.wire_within,
       sym (all_fit h.n t.cache h.entries f.entries_most (λ i l. fitting (get_or t.cache i empty) (f.entries_fit i l))),

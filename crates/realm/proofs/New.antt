@@ -39,11 +39,11 @@ new_holds : (g : Header) (t : Tables) → HeaderPasses (header (new_realm g)) �
     → Together (record { realm = new_realm g; terms = t.terms; runs = t.runs; wire = t.wire; cache = t.cache })
 new_holds g t passes l =
     record {
-      header_fits_lem = passes;
+      header_fits = passes;
       rules_known = new_known g.mark;
       clock_fits = omega arith;
       terms_hold = no_terms g.n l.terms;
-      rows_hold_lem = hold_none g.n l.runs (omega arith);
+      rows_hold = hold_none g.n l.runs (omega arith);
       wire_words = subst (Words 8) (sym l.wire) (empty_words 8);
       wire_within = λ i e. no_true (sym (ap (λ (ws : List ℕ). marked ws i) l.wire ∙ empty_marked 8 i) ∙ e);
       places = l.cache;

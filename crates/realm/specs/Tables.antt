@@ -29,7 +29,7 @@ pub record EntryFits (n : ℕ) (e : Entry) : Type 0 where
 
 pub record Together (t : Tables) : Type 0 where
   -- not "a header value as in 2"
-  pub header_fits_lem : HeaderPasses (header t.realm)
+  pub header_fits : HeaderPasses (header t.realm)
   -- not "tables naming no such set"
   pub rules_known : t.realm.rules < RULE_SETS
   -- "Times are 32 bits"
@@ -37,7 +37,7 @@ pub record Together (t : Tables) : Type 0 where
   -- not "a term that breaks the term rules, 5 or 6 or repeats", and the full number of places
   pub terms_hold : Valid t.realm.n t.terms t.realm.terms
   -- not "a run with an unknown role, .. a server run whose K is not its own number or whose key is not a term"
-  pub rows_hold_lem : RowsHold t.realm.n t.runs t.realm.runs t.terms t.realm.terms
+  pub rows_hold : RowsHold t.realm.n t.runs t.realm.runs t.terms t.realm.terms
   -- eight words, and not "a wire mark past the last term"
   pub wire_words : Words 8 t.wire
   pub wire_within : (i : ℕ) → marked t.wire i ≡ true → i < t.realm.terms

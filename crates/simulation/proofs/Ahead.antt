@@ -28,7 +28,7 @@ module _ {R : Realm} (t : Tables) (ρ : Reading Event) (f : Follows R t ρ) (r m
       let g = own t ρ f in
       let s = stands t ρ f.together g p.opened in
       let d = decisions.ahead_exact t f.together r m k ts ta (meets s refl) (rw s.is (brings t ρ f.together g p.delivers))
-      (omega (arith, g.clock_is, p.ticket_lives_lem)) (omega (arith, g.clock_is, p.authenticator_lives_lem)) in
+      (omega (arith, g.clock_is, p.ticket_lives)) (omega (arith, g.clock_is, p.authenticator_lives)) in
       let step : Step = record { step = 5; run = r; a = 0; b = 0; m = m; t = 0 } in (
         λ e. let h = d.0 ((step_refused t step).0 e) in omega (arith, g.clock_is, h),
         λ h. (step_refused t step).1 (d.1 (omega (arith, g.clock_is, h))),

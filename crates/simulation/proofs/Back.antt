@@ -159,9 +159,9 @@ module _ (t : Tables) (ρ : Reading Event) (fits : Together t) (g : Agrees (set_
       by5 (stored (responder_opened a b)) s.is (meets s refl) (brings d)
       (record {
         timely = record {
-          ticket_lives_lem = omega (arith, g.clock_is, i);
-          authenticator_lives_lem = omega (arith, g.clock_is, j);
-          not_ahead_lem = omega (arith, g.clock_is, near);
+          ticket_lives = omega (arith, g.clock_is, i);
+          authenticator_lives = omega (arith, g.clock_is, j);
+          not_ahead = omega (arith, g.clock_is, near);
         };
         absent = absent n;
         room = omega (arith, cache_length t ρ fits g, room);
@@ -185,7 +185,7 @@ module _ (t : Tables) (ρ : Reading Event) (fits : Together t) (g : Agrees (set_
   -- a server's key is there
   key_there : {r : ℕ} {own : Row} → Stands t r own → own.role ≡ Server → insert (key (session r)) ρ.terms ≡ ρ.terms
   key_there {r} s e =
-      let h = fits.rows_hold_lem.holds r s.below in
+      let h = fits.rows_hold.holds r s.below in
       let k = h.server (ap (λ (x : Row). x.role) s.is ∙ e) in
       insert_present (key (session r)) ρ.terms k.1.place
       (ap (λ (ms : List Message). term_at ms k.1.place) (sym g.terms_are)

@@ -75,7 +75,7 @@ module _ {t : Tables} (w : Together t) where
   room x k same fit =
       let xs = entered_all (terms_of t.terms t.realm.terms) (messages_of t.terms x.sends) in
       sent_fits (leb (length xs) 512) (length xs) (over xs t.terms) (marked_all t.wire xs (messages_of t.terms x.sends)) t.terms t.wire
-      (send_fits t.realm.n (omega (arith, w.header_fits_lem.most)) w.terms_hold t.wire (messages_of t.terms x.sends) (took_fits t w k).writes
+      (send_fits t.realm.n (omega (arith, w.header_fits.most)) w.terms_hold t.wire (messages_of t.terms x.sends) (took_fits t w k).writes
       (subst (TermsFit (messages_of t.terms x.sends)) (sym same) fit))
 
   module _ (ρ : Reading Event) (a : Agrees (set_of (header t.realm)) (header t.realm) (values_of (header t.realm) t) ρ) where

@@ -53,21 +53,21 @@ pub record Grows (t : Tables) (count : ℕ) (ts ws : List ℕ) : Type 0 where
 
 module _ {t : Tables} (w : Together t) {count : ℕ} {ts ws : List ℕ} (g : Grows t count ts ws) where
   rows_more : RowsHold t.realm.n t.runs t.realm.runs ts count
-  rows_more = hold_more w.rows_hold_lem g.older g.more (omega (arith, g.valid.size, g.valid.room))
+  rows_more = hold_more w.rows_hold g.older g.more (omega (arith, g.valid.size, g.valid.room))
 
   small : t.realm.n ≤ 256
-  small = omega (arith, w.header_fits_lem.most)
+  small = omega (arith, w.header_fits.most)
 
   module _ (x : Effect) (f : EntryReady t x.keeping) (h : ChangeHolds t.realm.n ts count t.realm.runs x.change) where
     pub next_together : x.clock < 2 ^ 32 → Together (next_tables t x count ts ws)
     next_together clock =
         let c = entries_kept w x.keeping f in
         record {
-          header_fits_lem = w.header_fits_lem;
+          header_fits = w.header_fits;
           rules_known = w.rules_known;
           clock_fits = clock;
           terms_hold = g.valid;
-          rows_hold_lem = rows_kept small rows_more x.change h;
+          rows_hold = rows_kept small rows_more x.change h;
           wire_words = g.words;
           wire_within = g.within;
           places = c.places;
@@ -95,7 +95,7 @@ module _ {t : Tables} (w : Together t) (x : Effect) (f : EffectFits t x) {count 
     (s : send_of t.terms t.wire t.realm.terms (messages_of t.terms x.sends) ≡ sent count ts ws) where
   sent_is : SentIs t.realm.n t.terms t.wire t.realm.terms (messages_of t.terms x.sends) ts ws count
   sent_is =
-      send_accepted t.realm.n (omega (arith, w.header_fits_lem.most)) w.terms_hold t.wire (messages_of t.terms x.sends) f.writes w.wire_words w.wire_within s
+      send_accepted t.realm.n (omega (arith, w.header_fits.most)) w.terms_hold t.wire (messages_of t.terms x.sends) f.writes w.wire_words w.wire_within s
 
   sent_grows : Grows t count ts ws
   sent_grows =

@@ -53,7 +53,7 @@ use Rattle.simulation.specs.Values.{values_of}
 -- under each rule set.
 pub lawful_calls : (R : Realm) (t : Tables) (new : New R t) (cs : List Call) → AllSized cs → Lawful (form_of R.rules) R (history (set_of R) R (engine_of R t new) cs)
 lawful_calls R t new cs size =
-    engine_lawful (form_of R.rules) R (subst HeaderPasses new.header_is new.together.header_fits_lem) (engine_of R t new) cs size
+    engine_lawful (form_of R.rules) R (subst HeaderPasses new.header_is new.together.header_fits) (engine_of R t new) cs size
 
 pub demand3 : (R : Realm) (t : Tables) (new : New R t) (cs : List Call) → AllSized cs → Demand3 (form_of R.rules) R (history (set_of R) R (engine_of R t new) cs)
 demand3 R t new cs size = kerberos.demand3 (form_of R.rules) R (history (set_of R) R (engine_of R t new) cs) (lawful_calls R t new cs size)

@@ -129,8 +129,8 @@ module _ (t : Tables) (ρ : Reading Event) (fits : Together t) (g : Agrees (set_
   taken (took4 {x = x} w d c i) f =
       by4 t.realm.clock (message_at t.terms x) g.clock_is ((from_log w).is ∙ ap some (opened_initiator _ (at_log w) (from_log w).as_row)) (delivers d) i f
   taken (took5 w d i) f =
-      takes5 ((from_log w).is ∙ ap some (opened_responder _ (at_log w) (from_log w).as_row)) (delivers d) (omega (arith, g.clock_is, i.timely.ticket_lives_lem))
-      (omega (arith, g.clock_is, i.timely.authenticator_lives_lem)) (omega (arith, g.clock_is, i.timely.not_ahead_lem)) (not_cached i.absent) (omega (arith, cache_length, i.room)) f
+      takes5 ((from_log w).is ∙ ap some (opened_responder _ (at_log w) (from_log w).as_row)) (delivers d) (omega (arith, g.clock_is, i.timely.ticket_lives))
+      (omega (arith, g.clock_is, i.timely.authenticator_lives)) (omega (arith, g.clock_is, i.timely.not_ahead)) (not_cached i.absent) (omega (arith, cache_length, i.room)) f
   taken (took6 w d i) f =
       takes6 ((from_log w).is ∙ ap some (authenticated _ (at_log w) (from_log w).as_row)) (delivers d) (omega (arith, g.clock_is, i))
   taken (took7 {now} h) f = takes7 {t = now} (omega (arith, g.clock_is, h))

@@ -94,21 +94,21 @@ module _ (h : Realm) {ts ts' rs rs' : List ℕ} (ws : List ℕ) {c c' : List Ent
   byte_row : {ms : List Message} {r : ℕ} {x : Row} → RowFits h.n ms r x → Fits x
   byte_row f =
       let p = f.principals in
-      let small : h.n ≤ 256 = omega (arith, w.header_fits_lem.most) in
+      let small : h.n ≤ 256 = omega (arith, w.header_fits.most) in
       record { a = omega (arith, p.a_below); b = omega (arith, p.b_below); k = omega (arith, f.key) }
 
   changed_same : (ms : List Message) (x : Change) → RowReady one ms x
       → rows_of (changed h.runs x rs) (run_count h.runs x) ≡ rows_of (changed h.runs x rs') (run_count h.runs x)
   changed_same ms (changes.Open x) f =
       rw (add-one h.runs)
-      ((writes rs w.rows_hold_lem.size h.runs f.0 x (byte_row f.1)).opened
+      ((writes rs w.rows_hold.size h.runs f.0 x (byte_row f.1)).opened
       ∙ ap (λ (l : List Row). l ++ (x ∷ [])) same_rows
-      ∙ sym (writes rs' w'.rows_hold_lem.size h.runs f.0 x (byte_row f.1)).opened)
+      ∙ sym (writes rs' w'.rows_hold.size h.runs f.0 x (byte_row f.1)).opened)
   changed_same ms (changes.Set r x) f =
-      let l : r < 64 = omega (arith, f.0, w.rows_hold_lem.room) in
-      (writes rs w.rows_hold_lem.size r l x (byte_row f.1)).replaced h.runs f.0
+      let l : r < 64 = omega (arith, f.0, w.rows_hold.room) in
+      (writes rs w.rows_hold.size r l x (byte_row f.1)).replaced h.runs f.0
       ∙ ap (λ (l : List Row). set l r x) same_rows
-      ∙ sym ((writes rs' w'.rows_hold_lem.size r l x (byte_row f.1)).replaced h.runs f.0)
+      ∙ sym ((writes rs' w'.rows_hold.size r l x (byte_row f.1)).replaced h.runs f.0)
   changed_same ms changes.Nothing f = same_rows
 
   kept_count : (x : Keeping) → (cache_of h c x).count ≡ (cache_of h c' x).count

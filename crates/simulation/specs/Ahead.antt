@@ -14,5 +14,5 @@ use Rattle.kerberos.specs.Rules.{TicketLives, AuthenticatorLives}
 pub record Passes17 (R : Realm) (ρ : Reading Event) (r m a b k ts ta : ℕ) : Type 0 where
   pub opened : run ρ.log r ≡ some (responder_opened a b)
   pub delivers : Delivers R ρ.terms ρ.log m (pair (ticket k a ts b) (authenticator a ta k))
-  pub ticket_lives_lem : TicketLives R ρ.log ts
-  pub authenticator_lives_lem : AuthenticatorLives R ρ.log ta
+  pub ticket_lives : TicketLives R ρ.log ts
+  pub authenticator_lives : AuthenticatorLives R ρ.log ta

@@ -44,11 +44,11 @@ public_past t c sized z e = lent_past t c sized z e
 module _ (t : Tables) (w : Together t) (c : Call) (sized : Sized c) where
   -- With 6 it is refused for all that depends on the walk,
   pub public_absent : own_refusal t.realm.n (raw_for c) ≡ 0 → walk_has t.realm t.terms c ≡ false → lent_call t c ≡ refuse t 6
-  public_absent z e = lent_called t c w ∙ called_absent t (omega (arith, w.rows_hold_lem.room)) (omega (arith, w.terms_hold.room)) c sized z e
+  public_absent z e = lent_called t c w ∙ called_absent t (omega (arith, w.rows_hold.room)) (omega (arith, w.terms_hold.room)) c sized z e
 
   -- and a record that the writer turns away is refused with the same number.
   pub public_barred : (own_refusal t.realm.n (raw_for c) ≡ 0 → ⊥) → lent_call t c ≡ refuse t (own_refusal t.realm.n (raw_for c))
-  public_barred n = lent_called t c w ∙ called_barred t (omega (arith, w.rows_hold_lem.room)) (omega (arith, w.terms_hold.room)) c sized n
+  public_barred n = lent_called t c w ∙ called_barred t (omega (arith, w.rows_hold.room)) (omega (arith, w.terms_hold.room)) c sized n
 
 module _ (g : Header) (fits : HeaderSized g) (words : List ℕ) (w : Words32 words)
     (buffer : List ℕ) (at count : ℕ) (after : List ℕ) (e : write_of g words buffer at ≡ write_outcome (Written count) after) where

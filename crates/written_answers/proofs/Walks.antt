@@ -38,7 +38,7 @@ module _ (n : ℕ) where
   one_more : (t : Tables) → Together t → t.realm.n ≡ n → (c : Call) → Sized c → own_refusal n (raw_for c) ≡ 0 → (cs : List Call)
       → TakenPast (called t c).tables cs → TakenPast t (c ∷ cs)
   one_more t w e c sized z cs rest =
-      (λ k q. called_past t (omega (arith, w.rows_hold_lem.room)) (omega (arith, w.terms_hold.room)) c sized (ap (λ (m : ℕ). own_refusal m (raw_for c)) e ∙ z) q, rest)
+      (λ k q. called_past t (omega (arith, w.rows_hold.room)) (omega (arith, w.terms_hold.room)) c sized (ap (λ (m : ℕ). own_refusal m (raw_for c)) e ∙ z) q, rest)
 
   pub taken_past : (raws : List RawRecord) → AllRawSized raws → records_refusal n raws ≡ 0 → (t : Tables) → Together t → t.realm.n ≡ n → TakenPast t (calls_from raws)
   taken_past [] f z t w e = tt

@@ -26,7 +26,7 @@ module _ (t : Tables) (s : Step) where
     pub can_send : Together t → CanSend t.terms t.realm.terms x.sends
     can_send w =
         let f = taken_fits t s w e in
-        record { n = t.realm.n; small = omega (arith, w.header_fits_lem.most); table = w.terms_hold; writes = f.writes; carries = f.carries }
+        record { n = t.realm.n; small = omega (arith, w.header_fits.most); table = w.terms_hold; writes = f.writes; carries = f.carries }
 
     module _ {words : List ℕ} {r : Prepared} (p : PlanFor t.terms t.realm.terms (messages_of t.terms x.sends) words r) where
       pub decision_full : 512 < t.realm.terms + r.count → Refused 20 ≡ decision t s

@@ -210,7 +210,7 @@ module _ (t : Tables) (fits : Together t) where
       let e : Entry = record { b = (row_at t r).b; k = k; ta = ta } in
       delivers r m k ts ta w d
       ∙ ap (admitting r k ts ta)
-      (admission_remembers t.realm t.cache ts e (lt-ltb _ _ l.ticket_lives_lem) (lt-ltb _ _ l.authenticator_lives_lem) (le-leb _ _ l.not_ahead_lem) cache_fits)
+      (admission_remembers t.realm t.cache ts e (lt-ltb _ _ l.ticket_lives) (lt-ltb _ _ l.authenticator_lives) (le-leb _ _ l.not_ahead) cache_fits)
 
   took_by : {step r a b m now : ℕ} {e : Event} {x : Effect} → Took t (calls.Step step r a b m now) e x → decided t (fields step r a b m now) ≡ Takes x
   unfolding step_of uses_table need_table opens_run ticks queries

@@ -39,7 +39,7 @@ module _ (t : Tables) (fits : Together t) where
   party s p k other = record { stage = s; principals = p; key = k; server = λ e. absurd (other e) }
 
   principals : {r : ℕ} {role : Role} {stage : Stage} → Meets t r role stage → PrincipalsFit t.realm.n (row_at t r).a (row_at t r).b
-  principals {r} v = (fits.rows_hold_lem.holds r v.below).principals
+  principals {r} v = (fits.rows_hold.holds r v.below).principals
 
   now : t.realm.clock < 2 ^ 32
   now = fits.clock_fits
@@ -84,10 +84,10 @@ module _ (t : Tables) (fits : Together t) where
         carries = tt;
       }
   took_fits (took6 {r} v d i) =
-      record { row = (v.below, party refl (principals v) (fits.rows_hold_lem.holds r v.below).key not_initiator); entry = tt; writes = tt; carries = tt }
+      record { row = (v.below, party refl (principals v) (fits.rows_hold.holds r v.below).key not_initiator); entry = tt; writes = tt; carries = tt }
   took_fits (took7 h) = record { row = tt; entry = tt; writes = tt; carries = tt }
   took_fits (took8 h) = record { row = tt; entry = tt; writes = tt; carries = tt }
-  took_fits (took9 v) = record { row = tt; entry = tt; writes = (omega (arith, v.below, fits.rows_hold_lem.room), tt); carries = tt }
+  took_fits (took9 v) = record { row = tt; entry = tt; writes = (omega (arith, v.below, fits.rows_hold.room), tt); carries = tt }
   took_fits (took10 d) = record { row = tt; entry = tt; writes = tt; carries = tt }
 
   -- the clock stays a time: the t of step 7 is one

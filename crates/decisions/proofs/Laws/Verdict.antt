@@ -77,9 +77,9 @@ module _ (t : Tables) (fits : Together t) where
       let other : ¬ (h.entries ≡ 16) = p.4 in
       record {
         timely = record {
-          ticket_lives_lem = ltb-true h.clock (ts + h.ls) p.0;
-          authenticator_lives_lem = ltb-true h.clock (ta + h.la) p.1;
-          not_ahead_lem = leb-true ta (h.clock + h.la) p.2;
+          ticket_lives = ltb-true h.clock (ts + h.ls) p.0;
+          authenticator_lives = ltb-true h.clock (ta + h.la) p.1;
+          not_ahead = leb-true ta (h.clock + h.la) p.2;
         };
         absent = p.3;
         room = omega arith;

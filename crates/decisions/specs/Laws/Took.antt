@@ -54,9 +54,9 @@ pub record PassesOn (t : Tables) (m x : ℕ) : Type 0 where
 
 -- neither 16 nor 17 nor 22
 pub record Timely (t : Tables) (ts ta : ℕ) : Type 0 where
-  pub ticket_lives_lem : t.realm.clock < ts + t.realm.ls
-  pub authenticator_lives_lem : t.realm.clock < ta + t.realm.la
-  pub not_ahead_lem : ta ≤ t.realm.clock + t.realm.la
+  pub ticket_lives : t.realm.clock < ts + t.realm.ls
+  pub authenticator_lives : t.realm.clock < ta + t.realm.la
+  pub not_ahead : ta ≤ t.realm.clock + t.realm.la
 
 -- and neither 18 nor 19
 pub record Admits (t : Tables) (ts b k ta : ℕ) : Type 0 where

@@ -29,7 +29,7 @@ use Rattle.effects.specs.Row.{ChangeFits, changed, run_count}
 
 pub row_fits : (t : Tables) (ms : List Message) (x : Change) → Together t → RowReady t ms x → ChangeFits t.realm.runs x
 row_fits t ms (changes.Open x) w f = f.0
-row_fits t ms (changes.Set r x) w f = omega (arith, f.0, w.rows_hold_lem.room)
+row_fits t ms (changes.Set r x) w f = omega (arith, f.0, w.rows_hold.room)
 row_fits t ms changes.Nothing w f = tt
 
 pub entry_fits_lem : (t : Tables) (x : Keeping) → EntryReady t x → EntryRoom t.realm.entries x

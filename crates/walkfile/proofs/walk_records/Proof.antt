@@ -104,7 +104,7 @@ write-file-line-requires : tie.Need-write-file-line-requires invariant-loop decr
 write-file-line-requires c κs = omega (arith, (room c.before.before.before.before).1)
 
 cast-write-end-line : tie.Need-overflow-cast-write-end-line invariant-loop decreases-loop
-cast-write-end-line c = omega (arith, c.before.before.before.before.before.loop.invariant.5.together.rows-hold.room)
+cast-write-end-line c = omega (arith, c.before.before.before.before.before.loop.invariant.5.together.rows_hold.room)
 
 cast-write-end-line-2 : tie.Need-overflow-cast-write-end-line-2 invariant-loop decreases-loop
 cast-write-end-line-2 c = omega (arith, c.before.before.before.before.before.before.before.loop.invariant.5.together.entries_most)

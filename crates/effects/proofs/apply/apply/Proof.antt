@@ -21,7 +21,7 @@ write-messages-requires c κs =
 write-row-requires : tie.Need-write-row-requires
 write-row-requires c κs =
     let s = c.before.before.before.before.before.before.before.before.before.before.before.before.before in
-    (s.requires.0.rows-hold.size, row_fits (lent s) (messages_of (lent s).terms s.args.effect.sends) s.args.effect.change s.requires.0 s.requires.1.fits.row)
+    (s.requires.0.rows_hold.size, row_fits (lent s) (messages_of (lent s).terms s.args.effect.sends) s.args.effect.change s.requires.0 s.requires.1.fits.row)
 
 cache-after-requires : tie.Need-cache-after-requires
 cache-after-requires c κs =
