@@ -22,18 +22,19 @@ overflow_add-all c =
 
 pub returns-then-all-gt-MAX_TERMS : goal.returns-then-all-gt-MAX_TERMS
 returns-then-all-gt-MAX_TERMS c =
-    ((decision_full (tables c.args.h c.args.terms.now c.args.runs.now c.args.wire.now c.args.cache) c.args.s (takes (goal.at.returns-then-all-gt-MAX_TERMS c).In-Takes) c.plan_sends-prepared.ensures c.if-all-gt-MAX_TERMS.true, tt), c.settle.ensures.1)
+    record { verdict_value = (decision_full (tables c.args.h c.args.terms.now c.args.runs.now c.args.wire.now c.args.cache) c.args.s (takes (goal.at.returns-then-all-gt-MAX_TERMS c).In-Takes) c.plan_sends-prepared.ensures c.if-all-gt-MAX_TERMS.true, tt); kept_by = c.settle.ensures.1 }
 
 pub returns-in-Refused : goal.returns-in-Refused
 returns-in-Refused c =
-    ((decision_refused (tables c.args.h c.args.terms.now c.args.runs.now c.args.wire.now c.args.cache) c.args.s (sym c.settle.ensures.0 ∙ c.in-Refused.is), tt), c.settle.ensures.1)
+    record { verdict_value = (decision_refused (tables c.args.h c.args.terms.now c.args.runs.now c.args.wire.now c.args.cache) c.args.s (sym c.settle.ensures.0 ∙ c.in-Refused.is), tt); kept_by = c.settle.ensures.1 }
 
 pub returns-else-all-gt-MAX_TERMS : goal.returns-else-all-gt-MAX_TERMS
 returns-else-all-gt-MAX_TERMS c =
-    let plan = c.plan_sends-prepared.ensures in (
-      (
+    let plan = c.plan_sends-prepared.ensures in
+    record {
+      verdict_value = (
         decision_taken (tables c.args.h c.args.terms.now c.args.runs.now c.args.wire.now c.args.cache) c.args.s (takes (goal.at.returns-else-all-gt-MAX_TERMS c).In-Takes) plan c.if-all-gt-MAX_TERMS.false,
         record { fits = taken_fits (tables c.args.h c.args.terms.now c.args.runs.now c.args.wire.now c.args.cache) c.args.s c.requires.0 (takes (goal.at.returns-else-all-gt-MAX_TERMS c).In-Takes); plan = plan; room = c.if-all-gt-MAX_TERMS.false },
-      ),
-      c.settle.ensures.1,
-    )
+      );
+      kept_by = c.settle.ensures.1;
+    }
