@@ -57,6 +57,7 @@ others k [] = true
 others k (n ∷ ns) = not (eqb k n) && others k ns
 
 absent : (k : ℕ) (ns : List ℕ) → others k ns ≡ true → ¬ (k ∈ ns)
+absent k [] e x'' = elim x'' [ ]
 absent k (n ∷ ns) e here = no_true (rw (eq-eqb k k refl) at e)
 absent k (n ∷ ns) e (there i) = absent k ns ((and-eq-true_iff (not (eqb k n)) (others k ns)).0 e).1 i
 
