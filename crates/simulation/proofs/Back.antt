@@ -57,6 +57,7 @@ pub record Met (t : Tables) (c : Call) (a : Act) : Type 0 where
 -- ---- an entry that the log's cache lacks
 
 logged_in : (xs : List replay.Entry) {x : replay.Entry} → Memᴰ x xs → logged x ∈ map logged xs
+logged_in [] x3 = elim x3 [ ]
 logged_in (y ∷ xs) (Memᴰ.head e) = subst (λ (z : replay.Entry). logged z ∈ map logged (y ∷ xs)) (sym e) here
 logged_in (y ∷ xs) (Memᴰ.tail i) = there (logged_in xs i)
 

@@ -36,6 +36,7 @@ record Logged (xs : List replay.Entry) (z : Entry) : Type 0 where
   is : z ≡ logged place
 
 logged_of : (xs : List replay.Entry) {z : Entry} → z ∈ map logged xs → Logged xs z
+logged_of [] x' = elim x' [ ]
 logged_of (x ∷ xs) here = record { place = x; member = Memᴰ.head refl; is = refl }
 logged_of (x ∷ xs) (there i) =
     let r = logged_of xs i in

@@ -38,6 +38,7 @@ member_at (x ∷ xs) zero h = Memᴰ.head refl
 member_at (x ∷ xs) (suc i) h = Memᴰ.tail (member_at xs i (omega arith))
 
 fit_members : {n : ℕ} (xs : List Entry) → ((i : ℕ) → i < length xs → EntryFits n (get_or xs i empty)) → {x : Entry} → Memᴰ x xs → EntryFits n x
+fit_members [] g x4 = elim x4 [ ]
 fit_members {n} (y ∷ xs) g (Memᴰ.head e) = subst (EntryFits n) (sym e) (g 0 (omega arith))
 fit_members (y ∷ xs) g (Memᴰ.tail m) = fit_members xs (λ i h. g (suc i) (omega arith)) m
 

@@ -12,6 +12,7 @@ use Rattle.kerberos.specs.Log.{Event, Log}
 -- the two ways to say that a list has a member
 
 member_in : {m : Message} (l : List Message) → Memᴰ m l → m ∈ l
+member_in mathlib.Core.List.[] x' = elim x' [ ]
 member_in {m} (x ∷ l) (Memᴰ.head e) = subst (λ (y : Message). m ∈ (y ∷ l)) e here
 member_in (x ∷ l) (Memᴰ.tail i) = there (member_in l i)
 

@@ -16,7 +16,7 @@ use Rattle.synthesis.specs.Sweep.{visit_of, sweep_of}
 use Rattle.synthesis.specs.Test.{saturate_of, composes_of, derivable_of}
 use Rattle.sending.specs.Send.{send_of}
 use Rattle.exchange.specs.Needs.{need_table}
-use Rattle.layers.specs.Layers.{of_kind, layer}
+use Rattle.layers.specs.Layers.{◌▸◌, of_kind, layer}
 use Rattle.forms.specs.Forms.{request_in, confirmation_in}
 use Rattle.forms.specs.Grant.{grant_in}
 use Rattle.forms.specs.Delivery.{ticket_in, authenticator_in, delivery_in}
