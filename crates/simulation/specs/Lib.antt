@@ -1,6 +1,5 @@
 -- The tables and the exchange side by side, and so demand 3 of every list of calls. Laws only; Promises is to be read first.
 pub mod Values
-Back
 pub mod Engine
 pub mod Unread
 pub mod Told
