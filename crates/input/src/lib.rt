@@ -1,8 +1,9 @@
 // Reading an input into a lent buffer, each part behind those before it.
 #![tactic(auto)]
 
-ghost use Rattle.std.specs.Prelude.{◌+◌, ◌-◌, ◌≤◌, ◌≡◌, length};
+ghost use Rattle.std.specs.Prelude.{◌+◌, ◌-◌, ◌<◌, ◌≤◌, ◌≡◌, length, slice_range, pos};
 ghost use Rattle.std.specs.Io.{ReadsAtMost};
+ghost use Rattle.std.specs.Io.KnownBytes.{ReadConsumes, Consumes, IsAtEnd};
 ghost use Rattle.io.specs.Counts.{clamp_len};
 ghost use Rattle.input.specs.Reads.{Reads};
 
@@ -27,7 +28,8 @@ fn interrupted(error: &Error) -> bool {
 
 // One read, which is made again where it was interrupted.
 fn read_part<R: Read>(reader: &mut R, part: &mut [u8]) -> Result<usize>
-    ensures { ReadsAtMost result part.new }
+    ensures bound { ReadsAtMost result part.new }
+    ensures bytes { ReadConsumes (R.remaining reader.old) (R.remaining reader.new) result part.new }
 {
     for _ in 0..INTERRUPTIONS {
         match reader.read(part) {
@@ -47,6 +49,8 @@ fn read_more<R: Read>(reader: &mut R, buffer: &mut [u8], count: usize) -> Input
     requires { count ≤ length buffer.old }
     ensures reads { Reads buffer.old count buffer.new result.count }
     ensures count_value { result.count ≡ count + clamp_len result.last (length buffer.old - count) }
+    ensures bytes { Consumes (R.remaining reader.old) (R.remaining reader.new) (slice_range buffer.new count result.count) }
+    ensures end { result.last ≡ pos 0 → count < length buffer.old → IsAtEnd (R.remaining reader.new) }
 {
     match read_part(reader, &mut buffer[count..]) {
         Ok(more) => {
@@ -66,6 +70,8 @@ pub fn read_behind<R: Read>(reader: &mut R, buffer: &mut [u8], count: usize) -> 
     requires { count ≤ length buffer.old }
     ensures reads { Reads buffer.old count buffer.new result.count }
     ensures count_len { clamp_len result.last (length buffer.new - result.count) ≡ 0 }
+    ensures bytes { Consumes (R.remaining reader.old) (R.remaining reader.new) (slice_range buffer.new count result.count) }
+    ensures end { result.last ≡ pos 0 → IsAtEnd (R.remaining reader.new) }
 {
     let mut at = count;
     while at < buffer.len() {
