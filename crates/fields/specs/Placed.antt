@@ -1,6 +1,6 @@
 -- Bytes written into a buffer from an offset on.
 -- Assumes nothing.
-use mathlib.Core.List.{List, [], ◌++◌}
+use mathlib.Core.List.{List, ◌++◌}
 use Rattle.std.specs.Prelude.{◌≡◌, ℕ, ◌+◌, take, drop}
 use Rattle.std.proofs.Math.ListN.{length}
 

@@ -1,6 +1,7 @@
--- Reading behind what a buffer holds. No contract of the kit says which bytes a read gives, so none here can. What is said is
--- where they go: behind those that were read before, which stay as they are. It is said of one read, and of all of them from
--- any count on; of several reads it follows that their parts stand one behind the other (`both_in_order`).
+-- Reading behind what a buffer holds. What is said here is where the bytes go that a read gives: behind those that were read
+-- before, which stay as they are. It is said of one read, and of all of them from any count on; of several reads it follows that
+-- their parts stand one behind the other (`both_in_order`). Which bytes they are the contracts say, of a reader that tells what it
+-- has left; of a file or a terminal nobody can.
 -- Assumes nothing.
 use Rattle.std.specs.Prelude.{List, ◌≡◌, ℕ, ◌≤◌, length, take}
 use Rattle.io.specs.Counts.{IsPrefixLen}

@@ -9,14 +9,15 @@ ghost use Rattle.std.specs.Prelude.{◌≡◌, ◌<◌, ◌≤◌, length};
 ghost use Rattle.io.specs.Counts.{IsPrefixLen};
 ghost use Rattle.comparison.specs.Compare.{is_same};
 
-use bytes::scan::find;
 use check::same;
 use comparison::{NEWLINE, Totals, Verdict, counted};
-use input::read_behind;
+use input::{Input, read_behind};
 use io::{print_decimal, write_all};
 use judging::judge;
-use libc::STDOUT_FILENO;
 use rewriting::back::{Rewritten, rewrite};
+use std::fs::File;
+use std::rt::Files;
+use std::str::from_utf8;
 use walkfile::LISTING_BYTES;
 
 // Each buffer has room for a byte more than its longest file, so that the file's end shows.
@@ -26,18 +27,31 @@ const STORED_BYTES: usize = LISTING_BYTES + 1;
 
 const LIST_BYTES: usize = 65536;
 
+const STDOUT_FILENO: i32 = 1;
+
+// What was read of a file. One that cannot be opened counts as one that cannot be read.
+fn read_named<R: Files>(rt: &R, path: &[u8], buffer: &mut [u8]) -> Input
+    ensures { IsPrefixLen result.count buffer.new }
+{
+    let Ok(name) = from_utf8(path) else {
+        return Input { count: 0, last: -1 };
+    };
+    match File::open(rt, name) {
+        Ok(mut file) => read_behind(&mut file, buffer, 0),
+        Err(_) => Input { count: 0, last: -1 },
+    }
+}
+
 // How many bytes of a file were read; a line if they are not all of it, or if it fills the buffer, so that its end does not
 // show.
-fn read_file(path: &[u8], buffer: &mut [u8]) -> usize
+fn read_file<R: Files>(rt: &R, path: &[u8], buffer: &mut [u8]) -> usize
     ensures { IsPrefixLen result buffer.new }
 {
-    let fd = os::open_read(path);
-    let input = read_behind(fd, buffer, 0);
+    let input = read_named(rt, path, buffer);
     if input.last != 0 {
         write_all(STDOUT_FILENO, path);
         write_all(STDOUT_FILENO, b": cannot be read whole\n");
     }
-    libc::close(fd);
     input.count
 }
 
@@ -58,9 +72,9 @@ fn told(walk: &[u8], text: &[u8], verdict: Verdict) -> bool
 }
 
 // Whether the listing of a walk file is the stored one.
-fn agrees(walk: &[u8], file: &[u8], listing: &[u8]) -> bool {
+fn agrees<R: Files>(rt: &R, walk: &[u8], file: &[u8], listing: &[u8]) -> bool {
     let mut stored = [0u8; STORED_BYTES];
-    let end = read_file(listing, &mut stored);
+    let end = read_file(rt, listing, &mut stored);
     told(walk, b": line ", judge(file, &stored[..end]))
 }
 
@@ -72,10 +86,10 @@ struct Seen {
     same: bool,
 }
 
-fn look(walk: &[u8], listing: &[u8]) -> Seen {
+fn look<R: Files>(rt: &R, walk: &[u8], listing: &[u8]) -> Seen {
     let mut file = [0u8; WALK_BYTES];
-    let end = read_file(walk, &mut file);
-    let agreed = agrees(walk, &file[..end], listing);
+    let end = read_file(rt, walk, &mut file);
+    let agreed = agrees(rt, walk, &file[..end], listing);
     let Rewritten::Compared(verdict) = rewrite(&file[..end]) else {
         return Seen {
             agrees: agreed,
@@ -96,8 +110,10 @@ fn line_after(list: &[u8], at: usize) -> usize
     requires { at < length list.now }
     ensures { (at < result) × (result ≤ length list.now) }
 {
-    let end = find(list, at, list.len(), NEWLINE);
-    if end < list.len() { end + 1 } else { end }
+    match list[at..].iter().position(|byte| *byte == NEWLINE) {
+        Some(more) => at + more + 1,
+        None => list.len(),
+    }
 }
 
 #[derive(Clone, Copy)]
@@ -107,7 +123,7 @@ struct Results {
 }
 
 // The walks from `first` on. A list that is cut short names fewer than its first line says.
-fn run(list: &[u8], first: usize) -> Results {
+fn run<R: Files>(rt: &R, list: &[u8], first: usize) -> Results {
     let mut listings = Totals {
         compared: 0,
         differ: 0,
@@ -123,7 +139,7 @@ fn run(list: &[u8], first: usize) -> Results {
             break;
         }
         let next = line_after(list, middle);
-        let seen = look(&list[at..middle - 1], &list[middle..next - 1]);
+        let seen = look(rt, &list[at..middle - 1], &list[middle..next - 1]);
         let listed = counted(listings, seen.agrees);
         listings = listed;
         if seen.written {
@@ -142,13 +158,13 @@ fn print_totals(totals: Totals, text: &[u8]) {
     write_all(STDOUT_FILENO, b" differ\n");
 }
 
-fn run_list(list: &[u8]) {
+fn run_list<R: Files>(rt: &R, list: &[u8]) {
     if list.len() == 0 {
         write_all(STDOUT_FILENO, b"files: empty\n");
         return;
     }
     let first = line_after(list, 0);
-    let results = run(list, first);
+    let results = run(rt, list, first);
     let listings = results.listings;
     let writings = results.writings;
     let mut digits = [0u8; 20];
@@ -163,8 +179,8 @@ fn run_list(list: &[u8]) {
     print_totals(writings, b" written back, ");
 }
 
-fn main() {
+fn main(rt: HostRuntime) {
     let mut list = [0u8; LIST_BYTES];
-    let count = read_file(b"files", &mut list);
-    run_list(&list[..count]);
+    let count = read_file(&rt, b"files", &mut list);
+    run_list(&rt, &list[..count]);
 }

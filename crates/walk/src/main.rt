@@ -2,24 +2,22 @@
 #![tactic(auto)]
 
 use input::read_behind;
-use libc::{STDIN_FILENO, STDOUT_FILENO};
+use std::io::{Error, Result, Write};
 use walkfile::{LISTING_BYTES, Listing, list};
 
 // One byte more than a file may have, so that a longer one shows.
 const INPUT_BYTES: usize = 65537;
 
-fn main() {
+fn main(rt: HostRuntime) -> Result<()> {
     let mut file = [0u8; INPUT_BYTES];
-    let input = read_behind(STDIN_FILENO, &mut file, 0);
+    let input = read_behind(&mut rt.stdin(), &mut file, 0);
     if input.last < 0 {
-        os::fail(b"standard input");
-        return;
+        return Err(Error::other("standard input cannot be read"));
     }
     let mut out = [0u8; LISTING_BYTES];
     let count = input.count;
     if let Listing::Written(end) = list(&file[..count], &mut out) {
-        if !io::write_all(STDOUT_FILENO, &out[..end]) {
-            os::fail(b"standard output");
-        }
+        rt.stdout().write_all(&out[..end])?;
     }
+    Ok(())
 }

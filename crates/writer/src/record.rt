@@ -7,8 +7,17 @@ ghost use Rattle.records.specs.Headers.{lives_at, header_width};
 ghost use Rattle.writer.specs.File.{front_in_bytes, lives_in_bytes, header_in_bytes, record_in_bytes};
 
 use exchange::header::{Flags, Header, Lookup, format_of};
+use fields::write_text;
 use raw_records::raw::RawRecord;
 use records::record::{STEP_BYTES, TERM_BYTES};
+
+// A text at the front of what is lent.
+fn copy(text: &[u8], out: &mut [u8]) -> usize
+    requires { length text.now ≤ length out.old }
+    ensures { Wrote out.old 0 text.now out.new result }
+{
+    write_text(out, 0, text)
+}
 
 // The lowest byte.
 fn low(x: u32) -> u8
@@ -35,7 +44,7 @@ fn write_front(out: &mut [u8], width: Flags, header: Header) -> usize
                 low(flags_high),
                 low(flags),
             ];
-            bytes::copy(&front, out)
+            copy(&front, out)
         }
         Flags::Bits32 => {
             let flags_upper = flags / 65536;
@@ -49,7 +58,7 @@ fn write_front(out: &mut [u8], width: Flags, header: Header) -> usize
                 low(flags_high),
                 low(flags),
             ];
-            bytes::copy(&front, out)
+            copy(&front, out)
         }
     }
 }
@@ -75,7 +84,7 @@ fn write_lives(out: &mut [u8], ls: u32, la: u32) -> usize
         low(la_third),
         low(la),
     ];
-    bytes::copy(&lives, out)
+    copy(&lives, out)
 }
 
 fn write_values(out: &mut [u8], width: Flags, header: Header) -> usize
@@ -117,7 +126,7 @@ fn write_term(out: &mut [u8], kind: u32, l: u32, r: u32) -> usize
         low(r_high),
         low(r),
     ];
-    bytes::copy(&record, out)
+    copy(&record, out)
 }
 
 // ST, step, run, a, b, m, t.
@@ -143,7 +152,7 @@ fn write_step(out: &mut [u8], step: u32, run: u32, a: u32, b: u32, m: u32, t: u3
         low(t_third),
         low(t),
     ];
-    bytes::copy(&record, out)
+    copy(&record, out)
 }
 
 // A record; what is none has no bytes.
