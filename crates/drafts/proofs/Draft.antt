@@ -5,10 +5,9 @@ use Rattle.std.proofs.Common.{ap, ap₂, ltb-true}
 use Rattle.std.proofs.Math.Bool.{and-eq-true_iff}
 use Rattle.drafts.specs.declared.Node.{Node}
 use Rattle.drafts.specs.declared.Node.TheVariants as node
-use Rattle.words.specs.declared.Term.TheVariants.{Principal, Time, Nonce}
 use Rattle.terms.proofs.AllOf.{each_true, true_each}
 use Rattle.terms.proofs.Descend.{descend_at}
-use Rattle.terms.specs.Message.{Key, Message, principal, pair, encrypted}
+use Rattle.terms.specs.Message.{Message, principal, pair, encrypted}
 use Rattle.drafts.specs.Draft.{key_name, node_message, node_at, read_node, draft_message, key_fits, node_fits, draft_fits}
 
 -- ---- laws

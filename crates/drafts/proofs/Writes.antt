@@ -11,7 +11,7 @@ use Rattle.words.specs.declared.Term.{Term}
 use Rattle.words.specs.declared.Term.TheVariants.{Principal, Time, Nonce, LongTermKey, SessionKey, Pair, Encrypted, Unknown}
 use Rattle.terms.specs.Meaning.{key_of, message_of, message_at}
 use Rattle.terms.proofs.Meaning.{message_at_lem, key_at}
-use Rattle.terms.specs.Message.{Key, Message}
+use Rattle.terms.specs.Message.{Message}
 use Rattle.terms.specs.Rules.{term_at, is_key}
 use Rattle.terms.proofs.RulesLaws.{Fields}
 use Rattle.terms.specs.Valid.{Terms, Valid}

@@ -14,7 +14,6 @@ use Rattle.sending.proofs.Entering.{longer_all}
 use Rattle.exchange.specs.declared.call.Call.{Call}
 use Rattle.exchange.specs.declared.call.Call.TheVariants as calls
 use Rattle.exchange.specs.Calls.{added_by}
-use Rattle.realm.specs.declared.input.Step.{Step}
 use Rattle.realm.specs.Tables.{Tables, Together}
 use Rattle.decisions.specs.declared.Verdict.{Verdict}
 use Rattle.decisions.specs.declared.Verdict.TheVariants.{Takes, Refused}

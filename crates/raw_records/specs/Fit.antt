@@ -1,7 +1,7 @@
 -- A record that passes by its own fields has the widths of the file's fields.
 -- Assumes nothing.
 use Rattle.std.specs.Prelude.{ℕ, ◌^◌, ◌<◌, get_or}
-use mathlib.Core.List.{List, []}
+use mathlib.Core.List.{List}
 
 -- every number is a word
 pub record Words32 (words : List ℕ) : Type 0 where

@@ -2,7 +2,6 @@
 -- that each step uses, and refusals 4, 5 and 6 in rising order.
 -- Assumes nothing.
 use Rattle.std.specs.Prelude.{ℕ, ◌≤◌, ◌≡◌, Bool, true, false, not, ◌&&◌, ◌||◌, cond, List, [], ◌∷◌, ltb, leb, eqb, get_or}
-use borrow.Author.Tests.{le-leb}
 use Rattle.runs.specs.Lent.{principals_fit}
 use Rattle.realm.specs.declared.header.Realm.{Realm}
 use Rattle.realm.specs.declared.input.Step.{Step}

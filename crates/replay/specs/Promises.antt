@@ -1,7 +1,6 @@
 -- What the replay cache promises. The contracts of `src/` say that each call comes to `remembered` or `forgotten`; here is what
 -- that means for the entries (one is appended, or they are filtered) and for every place of the list. Assumes nothing.
 use Rattle.std.specs.Prelude.{◌≡◌, ℕ, ◌+◌, ◌<◌, ◌≤◌, true, false, get_or, drop}
-use mathlib.Core.List.Memᴰ
 use mathlib.Core.List.{List, [], ◌∷◌, ◌++◌}
 use Rattle.replay.specs.declared.entry.Entry.{Entry}
 use Rattle.replay.specs.declared.entry.Purge.{Purge}

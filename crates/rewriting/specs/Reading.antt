@@ -1,6 +1,6 @@
 -- The records of a file as words: what `raw_records` says a caller hands to the writer, from what `records` says a file holds.
 -- Assumes nothing.
-use Rattle.std.specs.Prelude.{List, [], ℕ, drop}
+use Rattle.std.specs.Prelude.{List, ℕ, drop}
 use Rattle.std.proofs.Math.ListN.{length}
 use Rattle.records.specs.Calls.{Ending, ended, broken, calls_of}
 use Rattle.raw_records.specs.Calls.{words_for}

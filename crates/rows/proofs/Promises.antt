@@ -1,6 +1,6 @@
 -- What follows from the definitions of the same name in specs/.
 -- Assumes nothing.
-use Rattle.std.specs.Prelude.{List, [], ℕ, ◌<◌}
+use Rattle.std.specs.Prelude.{List, ℕ, ◌<◌}
 use Rattle.exchange.specs.declared.run.Row.{Row}
 use Rattle.rows.specs.Row.{Fits}
 use Rattle.rows.specs.Runs.{Full, set_run}

@@ -6,7 +6,7 @@ use Rattle.exchange.specs.declared.call.Answer.TheVariants.{Refused}
 use Rattle.exchange.specs.declared.call.Call.TheVariants as calls
 use Rattle.traces.specs.Realm.{Realm}
 use Rattle.traces.specs.RuleSets.{Reading}
-use Rattle.kerberos.specs.Log.{Event, clock, run}
+use Rattle.kerberos.specs.Log.{Event, clock}
 use Rattle.realm.specs.declared.input.Step.{Step}
 use Rattle.realm.specs.Opening.{header}
 use Rattle.realm.specs.Tables.{Tables}

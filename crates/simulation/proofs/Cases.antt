@@ -1,6 +1,6 @@
 -- What follows from the definitions of the same name in specs/.
 -- Assumes nothing.
-use Rattle.std.specs.Prelude.{◌≡◌, refl, true, [], map, length, replicate}
+use Rattle.std.specs.Prelude.{◌≡◌, refl, true, map, length, replicate}
 use Rattle.marks.specs.Bits.{bit, set_bit}
 use Rattle.marks.specs.Marks.{is_set, mark, marked, with_mark, sum, size}
 use Rattle.marks.specs.Within.{clear, within}
@@ -33,7 +33,7 @@ use Rattle.conditions.specs.Conditions.{admission}
 use Rattle.decisions.specs.Decision.{issues, authenticates, takes, finishes, opens_run, ticks, queries, step_of, decided, decision}
 use Rattle.effects.specs.Apply.{applied}
 use Rattle.effects.specs.Call.{stepped, called}
-use Rattle.simulation.specs.Cases.{play, c, table}
+use Rattle.simulation.specs.Cases.{play, table}
 
 pub cases : map play table ≡ map (λ c. c.says) table
 unfolding called stepped decision decided step_of opens_run issues authenticates takes finishes ticks queries admission input_refusal uses_table in_range need_table run_at set_run derivable_of composes_of saturate_of descend layers sweep_of visit_of marked mark with_mark size sum is_set bit set_bit term_of word_of message_at refusal_of find_of add_of place word_in with_word entered send_of applied present stays kept written request_in forms grant_in ticket_in authenticator_in delivery_in confirmation_in of_kind layer ◌▸◌

@@ -2,9 +2,7 @@
 -- it accepts is one that the rules take. So demand 3 holds of it. A call is taken as `called` has it; the tables hold together
 -- from the start on, so the check of refusal 10 never shows.
 -- Assumes nothing.
-use Rattle.std.specs.Prelude.{◌≡◌, []}
-use Rattle.terms.specs.Outcome as terms
-use Rattle.replay.specs.Cache.{entries}
+use Rattle.std.specs.Prelude.{◌≡◌}
 use Rattle.traces.specs.Engines.{Agrees}
 use Rattle.traces.specs.Realm.{Realm}
 use Rattle.traces.specs.RuleSets.{Reading}

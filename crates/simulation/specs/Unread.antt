@@ -2,7 +2,6 @@
 -- alike after it. Reads says it of each table, Decided of what a step comes to, Added of TM.
 -- Assumes nothing.
 use Rattle.std.specs.Prelude.{◌≡◌}
-use mathlib.Core.List.{[]}
 use Rattle.terms.specs.Number.{terms_of}
 use Rattle.replay.specs.Cache.{entries}
 use Rattle.rows.specs.Rows.{rows_of}

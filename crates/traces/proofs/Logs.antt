@@ -1,6 +1,6 @@
 -- What follows from the definitions of the same name in specs/.
 -- Assumes nothing.
-use Rattle.std.specs.Prelude.{List, [], ◌∷◌, ◌⊎◌, ◌↔◌}
+use Rattle.std.specs.Prelude.{List, ◌∷◌, ◌⊎◌, ◌↔◌}
 use Rattle.std.proofs.Common.{inl, inr}
 use Rattle.terms.specs.Message.{Message}
 use Rattle.traces.specs.Lists.{◌∈◌, here, there, ◌⊑◌, now, before}

@@ -2,7 +2,7 @@
 -- Laws for the code's loop, over plain variables.
 -- Assumes nothing.
 use Rattle.std.specs.Prelude.{length}
-use mathlib.Core.List.{List, []}
+use mathlib.Core.List.{List}
 use Prim.Native.Nat.{ℕ, ◌≤◌}
 use Rattle.records.specs.Headers.{header_width, max_file}
 use Rattle.realm.specs.declared.header.Realm.{Realm}

@@ -1,7 +1,6 @@
 -- Going through the records one by one: what is left of the bytes and of the writing after i of them.
 -- Assumes nothing.
 use Rattle.std.specs.Prelude.{◌≡◌}
-use mathlib.Core.List.{[]}
 use Prim.Native.Nat.{ℕ, ◌<◌, ◌≤◌}
 use Rattle.records.specs.Headers.{max_file}
 

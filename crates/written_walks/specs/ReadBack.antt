@@ -1,7 +1,7 @@
 -- "What it wrote is read back as the same records, and a file so read is written back as the same bytes."
 -- Assumes nothing.
 use Rattle.std.specs.Prelude.{◌≡◌}
-use mathlib.Core.List.{List, []}
+use mathlib.Core.List.{List}
 use Prim.Native.Nat.{ℕ}
 use Rattle.std.proofs.Math.ListN.{drop}
 use Rattle.exchange.specs.declared.call.Call.{Call}

@@ -22,7 +22,6 @@ use Rattle.forms.specs.Delivery.{delivery_in}
 use Rattle.forms.proofs.Promises.{is_delivery}
 use Rattle.forms.specs.declared.Delivery.{Delivery}
 use Rattle.forms.specs.declared.Delivery.TheVariants as deliveries
-use Rattle.replay.specs.Cache.{entries}
 use Rattle.replay.specs.declared.entry.Entry.{Entry}
 use Rattle.terms.proofs.AllOf.{five}
 use Rattle.exchange.specs.declared.call.Call.{Call}

@@ -1,11 +1,9 @@
 -- `drafts::draft_fits` meets its contract. The invariant: the nodes passed fit. Assumes nothing.
 use borrow.Author.Count.{below_more}
 use Rattle.std.proofs.Common.{rules}
-use mathlib.Core.Bool.{true}
 use mathlib.Core.Path.{sym, ◌∙◌}
 use native.Mathlib.Omega.{arith}
 use Rattle.terms.proofs.Choice.{is_false, no_true}
-use Rattle.drafts.specs.Draft.{node_fits}
 use Rattle.drafts.proofs.Draft.{fits_at, all_fit}
 use Rattle.drafts.proofs.draft_fits.Goals as goal
 

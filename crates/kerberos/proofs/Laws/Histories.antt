@@ -14,7 +14,7 @@ use Rattle.traces.proofs.Laws.Histories.{log_point, trace_of}
 use Rattle.exchange.specs.declared.form.Form.{Form}
 use Rattle.kerberos.specs.Log.{Event, Accept, Act, Log, clock}
 use Rattle.kerberos.specs.Rules.{Takes, takes_term, takes1, takes2, takes3, takes4, takes5, takes6, takes7, takes8, takes9, takes10}
-use Rattle.kerberos.specs.Reading.{act_of, rules, log, Lawful}
+use Rattle.kerberos.specs.Reading.{act_of, rules, Lawful}
 use Rattle.kerberos.specs.Words.{Accepts, accepts5, opened3, from4}
 use Rattle.kerberos.specs.Agreement.{Demand3, Secrecy}
 use Rattle.kerberos.proofs.Laws.Trace.{Trace}

@@ -13,7 +13,6 @@ use Rattle.forms.specs.declared.Grant.TheVariants as grants
 use Rattle.conditions.specs.Conditions.{derivable_at}
 use Rattle.decisions.specs.Decision.{need}
 use Rattle.receiving.proofs.Laws.{no_grant, grant_to_another, grant_over, grant_asked, grant_key_most, grant_number}
-use Rattle.std.proofs.Common.{rules}
 use Rattle.receiving.proofs.authenticate.Goals as goal
 use Rattle.receiving.proofs.authenticate.Goals.{Else-not-b-own, In-Is}
 

@@ -1,6 +1,5 @@
 -- `steps::by_row` meets its contract: each step by its call's contract and its law. Assumes nothing.
 -- ---- what is known on the way
-use mathlib.Core.List.{List}
 use mathlib.Core.Path.{◌≡◌, refl, sym, ap, ◌∙◌}
 use Prim.Native.Nat.{ℕ}
 use Rattle.conditions.specs.Conditions.{derivable_at}
@@ -9,7 +8,7 @@ use Rattle.realm.specs.declared.header.Realm.{Realm}
 use Rattle.realm.specs.declared.input.Step.{Step}
 use Rattle.realm.specs.Input.{uses_table, input_refusal}
 use Rattle.realm.proofs.InputLaws.{passed}
-use Rattle.realm.specs.Tables.{Tables, tables}
+use Rattle.realm.specs.Tables.{tables}
 use Rattle.terms.proofs.Choice.{no_true}
 use Rattle.steps.proofs.Laws.{fields_barred, fields_pass, message_below, names_run, step_1, step_2, step_3, step_7, step_8, step_10}
 use Rattle.steps.proofs.by_row.Goals as goal

@@ -1,13 +1,9 @@
 -- `steps::with_run` meets its contract: each step by its call's contract and its law. Assumes nothing.
 -- ---- what is known on the way
-use mathlib.Core.Bool.{true}
-use mathlib.Core.List.{List}
-use mathlib.Core.Path.{◌≡◌, refl, sym, ◌∙◌}
-use Prim.Native.Nat.{ℕ, ◌<◌}
+use mathlib.Core.Path.{refl, sym, ◌∙◌}
 use native.Mathlib.Omega.{arith}
-use Rattle.exchange.specs.Needs.{need_of, meets}
-use Rattle.realm.specs.Input.{uses_table, uses_of}
-use Rattle.realm.specs.Tables.{Tables, tables}
+use Rattle.realm.specs.Input.{uses_table}
+use Rattle.realm.specs.Tables.{tables}
 use Rattle.terms.proofs.Choice.{no_true}
 use Rattle.steps.proofs.Laws.{named_run_below, message_below, run_barred, step_4, step_5, step_6, step_9, is_9}
 use Rattle.steps.proofs.with_run.Goals as goal

@@ -1,7 +1,6 @@
 -- `walkfile::walk_records` meets its contract. Assumes nothing.
 use mathlib.Core.Path.{◌≡◌, refl, sym, ap, ◌∙◌}
 use Prim.Native.Nat.{ℕ, ◌+◌, ◌≤◌}
-use mathlib.Core.Logic.{⊎_elim}
 use native.Mathlib.Omega.{arith}
 use lib.ListN.{length}
 use Rattle.realm.specs.Tables.{tables}
@@ -16,7 +15,6 @@ use Rattle.fields.proofs.Placed.{wrote_as}
 use Rattle.lines.proofs.Promises.{header_short}
 use Rattle.walkfile.specs.Listing.{new_tables, tables_line}
 use Rattle.walkfile.proofs.Walking.{BeforeLast, record_lines, starts, goes_on, advances, few, ends_whole, ends_broken, ready_as, finishes}
-use borrow.Enum.Refused.{opened}
 use Rattle.walkfile.proofs.walk_records.Goals as goal
 use Rattle.walkfile.proofs.walk_records.Goals.{then-at-file, else-at-file, After-next_cache-1, At-loop-next_call, Joined-at-file}
 

@@ -1,7 +1,7 @@
 -- `deciding::decide::decide` meets its contract, by the law for each way out. Assumes nothing.
 use mathlib.Core.Path.{◌≡◌, sym, ◌∙◌}
 use native.Mathlib.Omega.{arith}
-use Rattle.realm.specs.Tables.{Tables, tables}
+use Rattle.realm.specs.Tables.{tables}
 use Rattle.decisions.specs.declared.Verdict.TheVariants.{Takes}
 use Rattle.decisions.specs.Decision.{decided}
 use Rattle.decisions.proofs.Promises.{taken_fits}

@@ -1,6 +1,6 @@
 -- `effects::apply::apply` meets its contract: what the plan says is what the effect says. Assumes nothing.
 use native.Mathlib.Omega.{arith}
-use Rattle.realm.specs.Tables.{Tables, tables}
+use Rattle.realm.specs.Tables.{tables}
 use Rattle.decisions.specs.Effects.{messages_of}
 use Rattle.effects.proofs.Laws.Apply.{row_fits, entry_fits_lem, all_applied}
 use Rattle.effects.proofs.apply.apply.Goals as goal

@@ -2,7 +2,6 @@
 use mathlib.Core.Path.{refl, sym}
 use Rattle.exchange.specs.Forms.{forms}
 use Rattle.exchange.proofs.Laws.Forms.{form_of_past}
-use Rattle.std.proofs.Common.{rules}
 use Rattle.exchange.proofs.form.form_of.Goals as goal
 
 pub returns-then-rules-ge-RULE_SETS : goal.returns-then-rules-ge-RULE_SETS

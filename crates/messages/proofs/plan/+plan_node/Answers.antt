@@ -1,5 +1,5 @@
 -- The proof of the cycle of calls {plan_node}: each way out cites its law. The measure is the node's number. Assumes nothing.
-use Rattle.std.proofs.Common.{◌≡◌, sym, ◌∙◌, arith}
+use Rattle.std.proofs.Common.{sym, ◌∙◌, arith}
 use Rattle.words.specs.Word.{word_of}
 use Rattle.messages.proofs.Planning.{node_seen, node_stored, node_atom, node_pair, node_encrypted, pair_below, pair_room, body_below, body_room, room_left}
 use Rattle.messages.proofs.plan.+plan_node.Goals as goal

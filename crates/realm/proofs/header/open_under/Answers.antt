@@ -3,7 +3,6 @@ use mathlib.Core.Path.{ap, ◌∙◌}
 use Prim.Native.Nat.{ℕ}
 use Rattle.realm.specs.Opening.{opening_by}
 use Rattle.realm.proofs.Opening.{opened, not_opened}
-use Rattle.std.proofs.Common.{rules}
 use Rattle.realm.proofs.header.open_under.Goals as goal
 
 pub returns-then-refusal-ne0 : goal.returns-then-refusal-ne0

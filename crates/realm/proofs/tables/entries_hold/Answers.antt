@@ -1,10 +1,8 @@
 -- `realm::tables::entries_hold` meets its contract. The invariant: each entry passed fits. Assumes nothing.
-use mathlib.Core.Bool.{true}
 use mathlib.Core.Path.{sym, ◌∙◌}
 use native.Mathlib.Omega.{arith}
 use borrow.Author.Count.{below_more}
 use Rattle.std.proofs.Common.{rules}
-use Rattle.realm.specs.Check.{entry_fits}
 use Rattle.realm.proofs.Check.{over_limit, misfit, all_fit}
 use Rattle.realm.proofs.tables.entries_hold.Goals as goal
 

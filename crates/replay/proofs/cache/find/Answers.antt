@@ -1,7 +1,6 @@
 -- `cache::find` meets its contract. The loop's invariant: none of the entries passed is `e`. Assumes nothing.
 use mathlib.Core.Path.{◌≡◌, sym, ◌∙◌}
 use Prim.Native.Nat.{◌<◌}
-use mathlib.Core.Bool.{false}
 use native.Mathlib.Omega.{arith}
 use Rattle.std.proofs.Common.{rules}
 use Rattle.replay.proofs.CacheLaws.Entries.{absent_zero, absent_more, present_at}

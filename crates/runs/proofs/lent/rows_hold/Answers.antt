@@ -1,12 +1,10 @@
 -- `runs::lent::rows_hold` meets its contract. The invariant: each row passed holds. Assumes nothing.
-use mathlib.Core.Bool.{true}
 use mathlib.Core.Path.{sym, ◌∙◌}
 use native.Mathlib.Omega.{arith}
 use borrow.Author.Count.{below_more}
 use Rattle.std.proofs.Common.{rules}
 use Rattle.terms.proofs.Choice.{no_true}
 use Rattle.runs.proofs.Decided.{refused, all_hold, is_row_lem}
-use Rattle.runs.specs.Lent.{row_holds}
 use Rattle.runs.proofs.lent.rows_hold.Goals as goal
 
 pub returns-then-runs-ne-RUN_WORDS : goal.returns-then-runs-ne-RUN_WORDS

@@ -1,5 +1,5 @@
 -- The proof of the cycle of calls {compose}: each way out cites its law. Assumes nothing.
-use Rattle.std.proofs.Common.{ℕ, ◌<◌, ◌+◌, ◌≡◌, refl, sym, ap, ◌∙◌, subst, arith, length}
+use Rattle.std.proofs.Common.{ℕ, ◌<◌, refl, sym, ap, ◌∙◌, subst, arith}
 use Rattle.marks.specs.Marks.{marked}
 use Rattle.marks.proofs.Parts.{part_marked}
 use Rattle.deduction.specs.Public.{public_of}
@@ -7,7 +7,6 @@ use Rattle.synthesis.specs.Compose.{operands_of}
 use Rattle.synthesis.proofs.ComposeLaws.{left_below, right_below}
 use Rattle.synthesis.proofs.Noted.{composed_found, composed_missed, composed_atom, composed_left, composed_right, kept_after}
 use Rattle.synthesis.proofs.compose.+compose.Goals as goal
-
 
 pub returns-then-is_marked : goal.returns-then-is_marked
 returns-then-is_marked t c =
