@@ -11,7 +11,6 @@ use Rattle.records.specs.Fields.{Bytes}
 use Rattle.records.specs.Records.{record_at}
 use Rattle.records.proofs.Promises.{step_on}
 use Rattle.effects.specs.Apply.{outcome}
-use Rattle.walkfile.proofs.Laws.{not_a_call}
 use Rattle.lines.specs.Lines.{end_line}
 use Rattle.fields.proofs.Placed.{wrote_as}
 use Rattle.lines.proofs.Promises.{header_short}
@@ -19,7 +18,7 @@ use Rattle.walkfile.specs.Listing.{new_tables, tables_line}
 use Rattle.walkfile.proofs.Walking.{BeforeLast, record_lines, starts, goes_on, advances, few, ends_whole, ends_broken, ready_as, finishes}
 use borrow.Enum.Refused.{opened}
 use Rattle.walkfile.proofs.walk_records.Goals as goal
-use Rattle.walkfile.proofs.walk_records.Goals.{After-next_cache-1, At-loop-next_call, Joined-at-file}
+use Rattle.walkfile.proofs.walk_records.Goals.{then-at-file, else-at-file, After-next_cache-1, At-loop-next_call, Joined-at-file}
 
 -- what the entry of the function knows
 bytes-file : (c : At-loop-next_call) → Bytes c.args.file.now
@@ -78,12 +77,12 @@ loop-next_call-preserved c =
     let t = tables l.realm l.terms l.runs l.wire l.cache in
     let read = was_read c in
     let sized = (step_on a.file.now l.at c.in-Call.next_call c.in-Call.next read).sized (bytes-file (goal.at.loop-next_call-preserved c).At-loop-next_call) in (
-      w.auto.out ∙ l.inv.0,
-      k.auto.terms ∙ l.inv.1,
-      k.auto.runs ∙ l.inv.2,
-      k.auto.wire ∙ l.inv.3,
+      w.auto.out ∙ l.invariant.0,
+      k.auto.terms ∙ l.invariant.1,
+      k.auto.runs ∙ l.invariant.2,
+      k.auto.wire ∙ l.invariant.3,
       k.ensures.kept_by,
-      goes_on a.file.now h.last.0 h.result (record_lines a.h a.mark a.file.now) l.out t l.at l.number l.end l.inv.5 c.in-Call.next_call c.in-Call.next
+      goes_on a.file.now h.new.out h.result (record_lines a.h a.mark a.file.now) l.out t l.at l.number l.end l.invariant.5 c.in-Call.next_call c.in-Call.next
           (outcome k.result k.new.terms k.new.runs k.new.wire) w.new.out w.result read sized k.ensures.wire_after w.ensures.wrote (w.ensures.upper_bound (omega (arith, (room (goal.at.loop-next_call-preserved c).At-loop-next_call).0))),
     )
 
@@ -103,12 +102,16 @@ ready c =
     let l = c.loop-next_call in
     let r = c.read_record in
     let most = c.requires.0.most in
-    ⊎_elim (λ w. ready_as w.5 w.6 (ends_broken _ _ _ _ _ _ _ _ _ l.invariant.5 most w.0.taken r.result r.ensures (not_a_call r.result (opened c.in_default.in_default-own.keys2)) _ _ w.2.ensures.0 (w.2.ensures.1 (omega (arith, (room-joined-at-file c).0)))))
-    (λ w. ready_as w.1 w.2 (ends_whole _ _ _ _ _ _ _ _ _ l.invariant.5 most w.0.left)) c.if-at-file.branch
+    elim c.if-at-file.branch [
+      | then-at-file w ↦
+          ready_as w.out-is w.end-is
+          (ends_broken _ _ _ _ _ _ _ _ _ l.invariant.5 most w.if-at-file.true r.result r.ensures c.in_default.not-Call _ _ w.write_file_line-end.ensures.wrote
+          (w.write_file_line-end.ensures.upper_bound (omega (arith, (room-joined-at-file c).0))))
+      | else-at-file w ↦ ready_as w.out-is w.end-is (ends_whole _ _ _ _ _ _ _ _ _ l.invariant.5 most w.if-at-file.false)
+    ]
 
 room_left : (c : Joined-at-file) → length c.if-at-file.out ≡ length c.args.out.now
-room_left c =
-    ⊎_elim (λ w. ap length w.5 ∙ w.2.kept.0) (λ w. ap length w.1) c.if-at-file.branch ∙ c.loop-next_call.invariant.0 ∙ c.write_header_line-end.auto.out
+room_left c = c.if-at-file.auto.out ∙ c.loop-next_call.auto.out ∙ c.write_header_line-end.auto.out
 
 pub write_end_line-requires : goal.write_end_line-requires
 write_end_line-requires c =
