@@ -1,5 +1,5 @@
-// The calls on a list of records, made for a case: of seventeen places as many are lent as the case says. A function that lends
-// records is proved by a walk of its MIR, by hand, so these only lend, and give the places back beside the answer.
+// The calls on a list of records, made for a case: of seventeen places as many are lent as the case says. These only lend, and give
+// the places back beside the answer.
 ghost use Rattle.std.specs.Prelude.{◌≤◌};
 
 use calls::{Called, call};

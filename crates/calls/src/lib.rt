@@ -1,5 +1,4 @@
-// The public call on the caller's own tables, the replay cache lent as a list of records. A function with a `&mut [Entry]` in it
-// is proved by a walk of its MIR, by hand, and so is each that calls it; so this is one thin function over the call by value.
+// The public call on the caller's own tables, the replay cache lent as a list of records: one thin function over the call by value.
 #![tactic(auto)]
 
 pub mod knowledge;
