@@ -1,4 +1,4 @@
-pub mod Answers
+pub mod AnswersLaws
 pub mod Numbers
 pub mod Promises
 pub mod Walks

@@ -59,6 +59,7 @@ late [] = true
 late (k ∷ ks) = leb 11 k && late ks
 
 of_late : {k : ℕ} (ks : List ℕ) → late ks ≡ true → k ∈ ks → 11 ≤ k
+of_late [] e x'' = elim x'' [ ]
 of_late (k ∷ ks) e here = leb-true 11 k ((and-eq-true_iff (leb 11 k) (late ks)).0 e).0
 of_late (j ∷ ks) e (there i) = of_late ks ((and-eq-true_iff (leb 11 j) (late ks)).0 e).1 i
 

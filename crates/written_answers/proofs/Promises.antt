@@ -30,7 +30,8 @@ use Rattle.walkfile.specs.Listing.{new_tables, call_lines, walk_lines, opening_l
 use Rattle.walkfile.proofs.Opened.{lends}
 use Rattle.calls.specs.Lent.{lent_call}
 use Rattle.calls.proofs.Same.{lent_called}
-use Rattle.written_answers.specs.Answers.{LeftApart, lent_past, called_absent, called_barred}
+use Rattle.written_answers.specs.Answers.{LeftApart}
+use Rattle.written_answers.proofs.AnswersLaws.{lent_past, called_absent, called_barred}
 use Rattle.written_answers.proofs.Walks as walks
 use Rattle.written_answers.specs.Walks.{TakenPast}
 use Rattle.written_answers.specs.Promises.{realm}

@@ -18,7 +18,7 @@ use Rattle.raw_records.specs.declared.raw.RawRecord.TheVariants.{Term, Step, Unk
 use Rattle.raw_records.specs.Calls.{calls_from, raw_for, AllRawSized}
 use Rattle.raw_records.specs.Refusals.{own_refusal, records_refusal}
 use Rattle.raw_records.proofs.Refusals.{first_zero}
-use Rattle.written_answers.specs.Answers.{called_past}
+use Rattle.written_answers.proofs.AnswersLaws.{called_past}
 use Rattle.written_answers.specs.Walks.{TakenPast}
 
 -- ---- laws

@@ -27,7 +27,7 @@ use Rattle.written_answers.specs.Answers.{LeftApart}
 
 -- ---- laws
 
-module _ (t : Tables) (few-runs : t.realm.runs ≤ 256) (few-terms : t.realm.terms ≤ 65536) (c : Call) (sized : Sized c) where
+module _ (t : Tables) (few_runs : t.realm.runs ≤ 256) (few_terms : t.realm.terms ≤ 65536) (c : Call) (sized : Sized c) where
   abbrev own : ℕ
   own = own_refusal t.realm.n (raw_for c)
 
@@ -35,7 +35,7 @@ module _ (t : Tables) (few-runs : t.realm.runs ≤ 256) (few-terms : t.realm.ter
   of_fields = fields_refusal t.realm t.terms c
 
   split : of_fields ≡ first own (cond (walk_has t.realm t.terms c) 0 6)
-  split = fields_apart t.realm t.terms few-runs few-terms c sized
+  split = fields_apart t.realm t.terms few_runs few_terms c sized
 
   -- where its own fields pass, the fields say what the tables lack
   passing : own ≡ 0 → of_fields ≡ cond (walk_has t.realm t.terms c) 0 6
@@ -49,16 +49,16 @@ module _ (t : Tables) (few-runs : t.realm.runs ≤ 256) (few-terms : t.realm.ter
       by true e = absurd (some (passing z ∙ ap (λ (b : Bool). cond b 0 6) e))
       by false e = inl (is ∙ passing z ∙ ap (λ (b : Bool). cond b 0 6) e, e)
 
-  pub called-past : own ≡ 0 → {k : ℕ} → (called t c).answer ≡ Refused k → LeftApart t c k
-  called-past z e = apart_by z (call_number t c e)
+  pub called_past : own ≡ 0 → {k : ℕ} → (called t c).answer ≡ Refused k → LeftApart t c k
+  called_past z e = apart_by z (call_number t c e)
 
-  pub called-absent : own ≡ 0 → walk_has t.realm t.terms c ≡ false → called t c ≡ refuse t 6
-  called-absent z e =
+  pub called_absent : own ≡ 0 → walk_has t.realm t.terms c ≡ false → called t c ≡ refuse t 6
+  called_absent z e =
       let is : of_fields ≡ 6 = passing z ∙ ap (λ (b : Bool). cond b 0 6) e in
       fields_told t c (λ n. omega arith) ∙ ap (refuse t) is
 
-  pub called-barred : (own ≡ 0 → ⊥) → called t c ≡ refuse t own
-  called-barred n = fields_told t c (λ z. n (sym is ∙ z)) ∙ ap (refuse t) is
+  pub called_barred : (own ≡ 0 → ⊥) → called t c ≡ refuse t own
+  called_barred n = fields_told t c (λ z. n (sym is ∙ z)) ∙ ap (refuse t) is
     where
       is : of_fields ≡ own
       is = split ∙ sym (first_some own _ n)
@@ -77,11 +77,11 @@ few t e =
     let runs = (rows_decided h.n t.runs h.runs t.terms h.terms).0 f.third in
     (omega (arith, runs.room), omega (arith, terms.room))
 
-pub lent-past : (t : Tables) (c : Call) → Sized c → own_refusal t.realm.n (raw_for c) ≡ 0 → {k : ℕ} → (lent_call t c).answer ≡ Refused k → LeftApart t c k
+pub lent_past : (t : Tables) (c : Call) → Sized c → own_refusal t.realm.n (raw_for c) ≡ 0 → {k : ℕ} → (lent_call t c).answer ≡ Refused k → LeftApart t c k
 unfolding lent_call checked
-lent-past t c sized z {k} =
+lent_past t c sized z {k} =
     cond_elim Past (eqb (length t.cache) 16) (checked t c) (refuse t 10)
-    (λ _. cond_elim Past (together t) (called t c) (refuse t 10) (λ h. called-past t (few t h).0 (few t h).1 c sized z) (λ _. ten)) (λ _. ten)
+    (λ _. cond_elim Past (together t) (called t c) (refuse t 10) (λ h. called_past t (few t h).0 (few t h).1 c sized z) (λ _. ten)) (λ _. ten)
   where
     Past : Outcome → Type 0
     Past o = o.answer ≡ Refused k → LeftApart t c k
