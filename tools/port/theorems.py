@@ -525,4 +525,5 @@ def main():
     print(f"{count} theorems and lemmas moved")
 
 
-main()
+if __name__ == "__main__":
+    main()

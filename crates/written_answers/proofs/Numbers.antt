@@ -31,8 +31,8 @@ use Rattle.effects.proofs.Promises.{step_refused}
 use Rattle.raw_records.specs.Apart.{fields_refusal}
 
 -- the number of a refusal, and that of the fields
-abbrev pub ByFields : (of_Fields number : ℕ) → Type 0
-ByFields of_Fields number = ((number ≡ of_Fields) × (of_Fields ≡ 0 → ⊥)) ⊎ (11 ≤ number)
+abbrev pub ByFields : (of_fields number : ℕ) → Type 0
+ByFields of_fields number = ((number ≡ of_fields) × (of_fields ≡ 0 → ⊥)) ⊎ (11 ≤ number)
 
 same_number : {j k : ℕ} → Refused j ≡ Refused k → j ≡ k
 same_number e = cc
