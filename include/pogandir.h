@@ -2,7 +2,7 @@
  * Dolev-Yao intruder, call by call over the caller's own tables, and whole
  * walk files.
  *
- * The functions are those of the crate `exported`; `rt staticlib exported`
+ * The functions are those of the crate `exported`; `tools/archive`
  * writes them to target/staticlib/libexported.a. What each is said to do here
  * is proved of its source; docs/TRUST.md says what stands outside the proof.
  * docs/MODEL.md explains the realm, its terms, its steps and its refusals.

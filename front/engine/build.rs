@@ -1,4 +1,4 @@
-//! Links the proved engine's archive, which `rt staticlib exported` writes.
+//! Links the proved engine's archive, which `tools/archive` writes.
 
 use std::env;
 use std::path::PathBuf;
@@ -9,7 +9,7 @@ fn main() {
     let archive = directory.join("libexported.a");
     println!("cargo:rerun-if-changed={}", archive.display());
     if !archive.exists() {
-        panic!("no target/staticlib/libexported.a: run `rt staticlib exported` at the top first");
+        panic!("no target/staticlib/libexported.a: run `tools/archive` at the top first");
     }
     println!("cargo:rustc-link-search=native={}", directory.display());
     println!("cargo:rustc-link-lib=static=exported");

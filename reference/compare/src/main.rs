@@ -16,7 +16,7 @@ const USAGE: &str = "usage:
 Without a program the proved engine runs in this process, if `compare` was built with it.";
 
 const NO_ENGINE: &str = "this build has no engine: name a --program for files, or build with it:
-  rt staticlib exported                                            (at the repository's top)
+  tools/archive                                                    (at the repository's top)
   cargo build --release --offline -p compare --features engine     (in reference/)";
 
 #[derive(Default)]
