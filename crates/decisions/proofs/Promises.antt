@@ -20,7 +20,7 @@ use Rattle.decisions.proofs.Laws.Refusals.{asked_for, Tells, state_tells, tells}
 use Rattle.decisions.specs.Laws.Took.{Brings, TookAs}
 use Rattle.decisions.specs.Laws.Underivable.{Reached}
 use Rattle.decisions.proofs.Laws.Underivable.{told, told_back}
-use Rattle.decisions.proofs.Laws.Verdict as verdicts
+use Rattle.decisions.proofs.Laws.Steps as steps
 use Rattle.decisions.specs.Refusals.{refusals_of, all_of}
 -- ---- laws passed on
 -- "remember then 18 or 19 as in step 5": a delivery that none of 4 to 17 bars, nor 22, is refused with the number that `remember` of b,
@@ -48,7 +48,7 @@ underivable_exact t w s = (told t w s, λ p. told_back t w s p.0 p.1 p.2)
 module _ (t : Tables) (s : Step) (w : Together t) {x : Effect} (d : decided t s ≡ Takes x) where
   -- it has met what its row of the step table asks for, and is an event of the exchange;
   pub taken_as : TookAs t (call_of s) x
-  taken_as = verdicts.took t w s d
+  taken_as = steps.took t w s d
 
   -- its row, its entry and its messages are such as the tables can hold.
   pub taken_fits : EffectFits t x
@@ -56,4 +56,4 @@ module _ (t : Tables) (s : Step) (w : Together t) {x : Effect} (d : decided t s 
 
 -- A step is taken, but for 20, exactly where it has met what its row of the step table asks for.
 pub taken_exact : (t : Tables) → Together t → (s : Step) {x : Effect} → (decided t s ≡ Takes x) ↔ TookAs t (call_of s) x
-taken_exact t w s = (verdicts.took t w s, λ k. took_decided t w s k.took)
+taken_exact t w s = (steps.took t w s, λ k. took_decided t w s k.took)

@@ -2,3 +2,4 @@ pub mod Calls
 pub mod Entries
 pub mod Pass
 pub mod Places
+pub mod Turn

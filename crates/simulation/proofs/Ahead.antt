@@ -16,13 +16,10 @@ use Rattle.effects.proofs.Promises.{step_refused}
 use Rattle.simulation.proofs.Back.{meets, brings, stands}
 use Rattle.simulation.specs.Engine.{Follows}
 use Rattle.simulation.proofs.Exact.{own}
-use Rattle.simulation.specs.Ahead.{Passes17}
+use Rattle.simulation.specs.Ahead.{Exact}
 
 module _ {R : Realm} (t : Tables) (ρ : Reading Event) (f : Follows R t ρ) (r m a b k ts ta : ℕ) where
-  abbrev Exact : Realm → Type 0
-  Exact R = Passes17 R ρ r m a b k ts ta → ((called t (calls.Step 5 r 0 0 m 0)).answer ≡ Refused 22) ↔ (clock ρ.log + R.auth_life < ta)
-
-  by_tables : Exact (header t.realm)
+  by_tables : Exact t ρ f r m a b k ts ta (header t.realm)
   unfolding called
   by_tables p =
       let g = own t ρ f in
@@ -34,5 +31,5 @@ module _ {R : Realm} (t : Tables) (ρ : Reading Event) (f : Follows R t ρ) (r m
         λ h. (step_refused t step).1 (d.1 (omega (arith, g.clock_is, h))),
       )
 
-  pub ahead_exact : Exact R
-  ahead_exact = subst Exact f.header_is by_tables
+  pub ahead_exact : Exact t ρ f r m a b k ts ta R
+  ahead_exact = subst (Exact t ρ f r m a b k ts ta) f.header_is by_tables

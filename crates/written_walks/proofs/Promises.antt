@@ -48,8 +48,8 @@ module _ (g : Header) (words buffer : List ℕ) (at count : ℕ) (after : List �
   pub read_back : HeaderSized g → Words32 words → ReadsAs (take count (drop at after)) g (calls_from (records_of words))
   read_back h w =
       subst (λ (bytes : List ℕ). ReadsAs bytes g (calls_from (records_of words))) (sym (file_at g words buffer at count after it_stands))
-      (file_back g (records_of words) (taken g h.2 h.3 written_passes.header) h.2 h.3 written_passes.short
-      (records_fit g.n h.0 words w written_passes.records))
+      (file_back g (records_of words) (taken g h.2 h.3 it_stands.passed.header) h.2 h.3 it_stands.passed.short
+      (records_fit g.n h.0 words w it_stands.passed.records))
 
   -- "All other bytes of the buffer keep their values."
   pub others_kept : (take at after ≡ take at buffer) × (drop (at + count) after ≡ drop (at + count) buffer)

@@ -1,7 +1,7 @@
 -- The verdict turned round: a step that is decided to be taken has met what its row of the step table asks for.
 -- Assumes nothing.
-use Prim.Native.Nat.{ℕ, zero, suc, ◌+◌, ◌<◌, ◌≤◌}
-use Rattle.std.specs.Prelude.{◌≡◌, Bool, true, false, not, ◌&&◌, ltb, leb, eqb}
+use Prim.Native.Nat.{ℕ, ◌+◌, ◌<◌, ◌≤◌}
+use Rattle.std.specs.Prelude.{◌≡◌, Bool, true, false, not, ◌&&◌, eqb}
 use Rattle.std.proofs.Math.Path.{refl, subst}
 use Rattle.std.proofs.Common.{sym, ap, ◌∙◌, arith, ltb-true, leb-true, eqb-true}
 use Rattle.std.proofs.lemmas.Bool.{eqb-false, not-true}
@@ -24,18 +24,12 @@ use Rattle.forms.specs.declared.Delivery.{Delivery}
 use Rattle.forms.specs.declared.Delivery.TheVariants as deliveries
 use Rattle.replay.specs.declared.entry.Entry.{Entry}
 use Rattle.terms.proofs.AllOf.{five}
-use Rattle.exchange.specs.declared.call.Call.{Call}
 use Rattle.exchange.specs.declared.call.Call.TheVariants as calls
-use Rattle.exchange.specs.declared.run.Role.{Role}
-use Rattle.exchange.specs.declared.run.Role.TheVariants.{Initiator, Responder, Server}
-use Rattle.exchange.specs.declared.run.Stage.{Stage}
-use Rattle.exchange.specs.declared.run.Stage.TheVariants.{Opened, Authenticated, Done}
+use Rattle.exchange.specs.declared.run.Role.TheVariants.{Initiator, Responder}
+use Rattle.exchange.specs.declared.run.Stage.TheVariants.{Opened, Authenticated}
 use Rattle.kerberos.specs.Messages.{request, grant, ticket, authenticator, confirmation}
-use Rattle.exchange.specs.Needs.{need_table, is_at}
 use Rattle.traces.specs.Conditions.{Apart}
 use Rattle.realm.specs.declared.input.Step.{Step}
-use Rattle.realm.specs.Input.{uses_table, uses_of, input_refusal}
-use Rattle.realm.proofs.InputLaws.{passed}
 use Rattle.conditions.specs.Conditions.{derivable_at, ticket_lives, admission}
 use Rattle.conditions.proofs.Promises.{admission_exact}
 use Rattle.sending.specs.Send.{fits_in}
@@ -43,23 +37,21 @@ use Rattle.decisions.specs.Effects.{messages_of}
 use Rattle.decisions.specs.declared.Effect.{Effect}
 use Rattle.decisions.specs.declared.Verdict.{Verdict}
 use Rattle.decisions.specs.declared.Verdict.TheVariants.{Takes, Refused}
-use Rattle.decisions.specs.Decision.{need, on_request, issues, on_grant, authenticates, on_delivery, takes, on_confirmation, finishes}
-use Rattle.decisions.specs.Decision.{opens_run, ticks, queries, step_of, decided, roomed, decision}
+use Rattle.decisions.specs.Decision.{need, on_request, on_grant, on_delivery, on_confirmation}
+use Rattle.decisions.specs.Decision.{decided, roomed, decision}
 use Rattle.realm.specs.Tables.{Tables, Together}
-use Rattle.realm.specs.Fields.{call_of}
-use Rattle.realm.proofs.Fields.{cleared, call_cleared, Range, in_range_lem}
 use Rattle.kerberos.specs.Reading.{parts}
 use Rattle.messages.proofs.Parts.{number_here}
 use Rattle.decisions.proofs.Laws.Forms.{x_stands}
-use Rattle.decisions.specs.Laws.Took.{row_at, form_at, Meets, Brings, PassesOn, Admits, TookAs, took1, took2, took3, took4, took5, took6, took7, took8, took9, took10}
+use Rattle.decisions.specs.Laws.Took.{row_at, form_at, Meets, Brings, PassesOn, Admits, TookAs, took3, took4, took5, took6}
 use Rattle.decisions.proofs.Laws.Took.{took_as}
 
 -- ---- what a verdict says
 
-not_refused : {A : Type 0} {number : ℕ} {e : Effect} → Refused number ≡ Takes e → A
+pub not_refused : {A : Type 0} {number : ℕ} {e : Effect} → Refused number ≡ Takes e → A
 not_refused q = let z : ◌≡◌ {A = ℕ} 0 1 = cc in absurd (omega arith)
 
-same_effect : {x e : Effect} → Takes x ≡ Takes e → x ≡ e
+pub same_effect : {x e : Effect} → Takes x ≡ Takes e → x ≡ e
 same_effect q = cc
 
 pub need_takes : (ok : Bool) (number : ℕ) (v : Verdict) {e : Effect} → need ok number v ≡ Takes e → (ok ≡ true) × (v ≡ Takes e)
@@ -96,10 +88,10 @@ module _ (t : Tables) (fits : Together t) where
 
   -- ---- the steps that take a message
 
-  abbrev can : ℕ → Bool
+  abbrev pub can : ℕ → Bool
   can m = derivable_at t.realm t.terms t.wire m
 
-  took_issue : (m : ℕ) → m < t.realm.terms → t.realm.runs < 64 → (q : Request) → request_in (message_at t.terms m) ≡ q
+  pub took_issue : (m : ℕ) → m < t.realm.terms → t.realm.runs < 64 → (q : Request) → request_in (message_at t.terms m) ≡ q
       → {e : Effect} → on_request t.realm t.terms t.wire m q ≡ Takes e → TookAs t (calls.Step 3 0 0 0 m 0) e
   took_issue m l room requests.Other i v = not_refused v
   took_issue m l room (requests.Is a b n) i v =
@@ -127,7 +119,7 @@ module _ (t : Tables) (fits : Together t) where
       let means = ap (message_at t.terms) q ∙ s.means in
       (means, record { below = omega (arith, q, below); is = means ∙ is })
 
-  took_grant : (r m : ℕ) → Meets t r Initiator Opened → m < t.realm.terms → (q : Granted) → grant_in (form_at t) (message_at t.terms m) ≡ q
+  pub took_grant : (r m : ℕ) → Meets t r Initiator Opened → m < t.realm.terms → (q : Granted) → grant_in (form_at t) (message_at t.terms m) ≡ q
       → {e : Effect} → on_grant t.realm t.terms t.wire r (row_at t r) m q ≡ Takes e → TookAs t (calls.Step 4 r 0 0 m 0) e
   took_grant r m w l Other i v = not_refused v
   took_grant r m w l (Is k b ts n a x) i v =
@@ -144,7 +136,7 @@ module _ (t : Tables) (fits : Together t) where
       same : {b' n' a' : ℕ} {x' : Message} → b ≡ b' → n ≡ n' → a ≡ a' → x ≡ x' → grant (form_at t) k b ts n a x ≡ grant (form_at t) k b' ts n' a' x'
       same p q s u = λ i. grant (form_at t) k (p i) ts (q i) (s i) (u i)
 
-  took_delivery : (r m : ℕ) → Meets t r Responder Opened → m < t.realm.terms → (q : Delivery) → delivery_in (message_at t.terms m) ≡ q
+  pub took_delivery : (r m : ℕ) → Meets t r Responder Opened → m < t.realm.terms → (q : Delivery) → delivery_in (message_at t.terms m) ≡ q
       → {e : Effect} → on_delivery t.realm t.terms t.wire t.cache r (row_at t r) m q ≡ Takes e → TookAs t (calls.Step 5 r 0 0 m 0) e
   took_delivery r m w l deliveries.Other i v = not_refused v
   took_delivery r m w l (deliveries.Is k a ts b ta) i v =
@@ -162,7 +154,7 @@ module _ (t : Tables) (fits : Together t) where
       same : {a' b' : ℕ} → a ≡ a' → b ≡ b' → pair (ticket k a ts b) (authenticator a ta k) ≡ pair (ticket k a' ts b') (authenticator a' ta k)
       same x y = cc
 
-  took_confirmation : (r m : ℕ) → Meets t r Initiator Authenticated → m < t.realm.terms → (q : Confirmation) → confirmation_in (message_at t.terms m) ≡ q
+  pub took_confirmation : (r m : ℕ) → Meets t r Initiator Authenticated → m < t.realm.terms → (q : Confirmation) → confirmation_in (message_at t.terms m) ≡ q
       → {e : Effect} → on_confirmation t.realm t.terms t.wire r (row_at t r) m q ≡ Takes e → TookAs t (calls.Step 6 r 0 0 m 0) e
   took_confirmation r m w l confirmations.Other i v = not_refused v
   took_confirmation r m w l (confirmations.Is ta k) i v =
@@ -176,60 +168,6 @@ module _ (t : Tables) (fits : Together t) where
     where
       same : {ta' k' : ℕ} → ta ≡ ta' → k ≡ k' → confirmation ta k ≡ confirmation ta' k'
       same x y = cc
-
-  -- ---- by the step's number
-
-  abbrev fields : (step r a b m now : ℕ) → Step
-  fields step r a b m now = record { step = step; run = r; a = a; b = b; m = m; t = now }
-
-  met : (r : ℕ) (role : Role) (stage : Stage) (k : ℕ) (v : Verdict) {e : Effect} → r < t.realm.runs → need (is_at (row_at t r) role stage) k v ≡ Takes e
-      → Meets t r role stage × (v ≡ Takes e)
-  met r role stage k v l q =
-      let p = need_takes (is_at (row_at t r) role stage) k v q in
-      (record { below = l; at = p.0 }, p.1)
-
-  took_by : (step r a b m now : ℕ) {e : Effect} → Range t.realm (uses_of step) (fields step r a b m now) → step_of t (fields step r a b m now) ≡ Takes e
-      → TookAs t (cleared (uses_of step) (fields step r a b m now)) e
-  unfolding step_of uses_table need_table opens_run issues authenticates takes finishes ticks queries
-  took_by zero r a b m now f v = not_refused v
-  took_by (suc zero) r a b m now f v =
-      let p = need_takes (ltb t.realm.runs 64) _ _ v in
-      subst (TookAs t (calls.Step 1 0 a b 0 0)) (same_effect p.1) (took_as (took1 (f.principals refl) (ltb-true t.realm.runs 64 p.0)))
-  took_by (suc (suc zero)) r a b m now f v =
-      let p = need_takes (ltb t.realm.runs 64) _ _ v in
-      subst (TookAs t (calls.Step 2 0 a b 0 0)) (same_effect p.1) (took_as (took2 (f.principals refl) (ltb-true t.realm.runs 64 p.0)))
-  took_by (suc (suc (suc zero))) r a b m now f v =
-      let p = need_takes (ltb t.realm.runs 64) _ _ v in
-      took_issue m (f.m refl) (ltb-true t.realm.runs 64 p.0) (request_in (message_at t.terms m)) refl p.1
-  took_by (suc (suc (suc (suc zero)))) r a b m now f v =
-      let p = met r Initiator Opened _ _ (f.run refl) v in
-      took_grant r m p.0 (f.m refl) (grant_in (form_at t) (message_at t.terms m)) refl p.1
-  took_by (suc (suc (suc (suc (suc zero))))) r a b m now f v =
-      let p = met r Responder Opened _ _ (f.run refl) v in
-      took_delivery r m p.0 (f.m refl) (delivery_in (message_at t.terms m)) refl p.1
-  took_by (suc (suc (suc (suc (suc (suc zero)))))) r a b m now f v =
-      let p = met r Initiator Authenticated _ _ (f.run refl) v in
-      took_confirmation r m p.0 (f.m refl) (confirmation_in (message_at t.terms m)) refl p.1
-  took_by (suc (suc (suc (suc (suc (suc (suc zero))))))) r a b m now f v =
-      let p = need_takes (leb t.realm.clock now) _ _ v in
-      subst (TookAs t (calls.Step 7 0 0 0 0 now)) (same_effect p.1) (took_as (took7 (leb-true t.realm.clock now p.0)))
-  took_by (suc (suc (suc (suc (suc (suc (suc (suc zero)))))))) r a b m now f v =
-      subst (TookAs t (calls.Step 8 0 0 b 0 0)) (same_effect v) (took_as (took8 (f.b refl)))
-  took_by (suc (suc (suc (suc (suc (suc (suc (suc (suc zero))))))))) r a b m now f v =
-      let p = met r Server Done _ _ (f.run refl) v in
-      subst (TookAs t (calls.Step 9 r 0 0 0 0)) (same_effect p.1) (took_as (took9 p.0))
-  took_by (suc (suc (suc (suc (suc (suc (suc (suc (suc (suc zero)))))))))) r a b m now f v =
-      let p = need_takes (can m) _ _ v in
-      subst (TookAs t (calls.Step 10 0 0 0 m 0)) (same_effect p.1) (took_as (took10 (brings m _ (f.m refl) refl p.0)))
-  took_by (suc (suc (suc (suc (suc (suc (suc (suc (suc (suc (suc step))))))))))) r a b m now f v = not_refused v
-
-  pub took : (s : Step) {e : Effect} → decided t s ≡ Takes e → TookAs t (call_of s) e
-  unfolding decided
-  took s {e} v =
-      let p = need_takes (eqb (input_refusal t.realm s) 0) (input_refusal t.realm s) (step_of t s) v in
-      let q = passed t.realm s (eqb-true (input_refusal t.realm s) 0 p.0) in
-      subst (λ (c : Call). TookAs t c e) (sym (call_cleared (uses_of s.step) s q.unused))
-      (took_by s.step s.run s.a s.b s.m s.t (in_range_lem t.realm (uses_of s.step) s q.range) p.1)
 
 -- ---- 20
 

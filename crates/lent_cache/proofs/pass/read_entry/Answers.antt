@@ -1,6 +1,6 @@
 -- `read_entry`: either way out is a law of `after_read`; the entry read and the place of one kept are within the list.
 use Rattle.std.proofs.Common.{length-set, sym, ◌∙◌, arith}
-use Rattle.replay.proofs.CacheLaws.Pass.{turn_length, turn_below, turn_goes, turn_stays}
+use Rattle.replay.proofs.CacheLaws.Turn.{turn_length, turn_below, turn_goes, turn_stays}
 use Rattle.lent_cache.proofs.pass.read_entry.Goals as goal
 
 pub offset_bounds-list-i : goal.offset_bounds-list-i
