@@ -1,12 +1,10 @@
 -- What follows from the definitions of the same name in specs/.
 -- Assumes nothing.
-use Rattle.std.specs.Prelude.{ℕ, ◌+◌, ◌<◌, ◌≡◌, refl, ◌↔◌}
+use Rattle.std.specs.Prelude.{ℕ, refl}
 use Rattle.std.proofs.Common.{subst, arith}
-use Rattle.exchange.specs.declared.call.Answer.TheVariants.{Refused}
-use Rattle.exchange.specs.declared.call.Call.TheVariants as calls
 use Rattle.traces.specs.Realm.{Realm}
 use Rattle.traces.specs.RuleSets.{Reading}
-use Rattle.kerberos.specs.Log.{Event, clock}
+use Rattle.kerberos.specs.Log.{Event}
 use Rattle.realm.specs.declared.input.Step.{Step}
 use Rattle.realm.specs.Opening.{header}
 use Rattle.realm.specs.Tables.{Tables}
