@@ -1,7 +1,7 @@
 -- What follows from the definitions of the same name in specs/.
 -- Assumes nothing.
 use Rattle.std.specs.Prelude.{◌≡◌, false, List, ◌++◌, ℕ, drop}
-use Rattle.std.proofs.Math.Path.{refl, sym, ap}
+use Rattle.std.proofs.Math.Path.{refl, ap}
 use Rattle.std.proofs.Common.{◌∙◌, arith}
 use Rattle.std.proofs.Math.ListN.{take}
 use Rattle.exchange.specs.declared.call.Answer.TheVariants.{Refused}
@@ -11,7 +11,6 @@ use Rattle.exchange.specs.Calls.{Sized}
 use Rattle.exchange.specs.Formats.{HeaderSized}
 use Rattle.realm.specs.declared.header.Opening.TheVariants.{Open}
 use Rattle.realm.specs.Opening.{opening_of}
-use Rattle.realm.proofs.Opening.{opened}
 use Rattle.realm.proofs.Promises.{new_together}
 use Rattle.realm.specs.Tables.{Tables, Together}
 use Rattle.effects.specs.Apply.{refuse}
@@ -32,6 +31,7 @@ use Rattle.calls.specs.Lent.{lent_call}
 use Rattle.calls.proofs.Same.{lent_called}
 use Rattle.written_answers.specs.Answers.{LeftApart}
 use Rattle.written_answers.proofs.AnswersLaws.{lent_past, called_absent, called_barred}
+use Rattle.written_answers.proofs.Opens.{header_opens}
 use Rattle.written_answers.proofs.Walks as walks
 use Rattle.written_answers.specs.Walks.{TakenPast}
 use Rattle.written_answers.specs.Promises.{realm}
@@ -55,8 +55,7 @@ module _ (g : Header) (fits : HeaderSized g) (words : List ℕ) (w : Words32 wor
     (buffer : List ℕ) (at count : ℕ) (after : List ℕ) (e : write_of g words buffer at ≡ write_outcome (Written count) after) where
   -- Its header opens a realm,
   pub walk_opens : opening_of g ≡ Open (realm g fits words w buffer at count after e)
-  unfolding opening_of
-  walk_opens = sym (opened g _ (written_passes g words buffer at count after e).header)
+  walk_opens = header_opens g fits words w buffer at count after e
 
   -- and none of its records, which are read to the end of the file (`read_back` of `written_walks`), is refused for its own fields.
   pub walk_taken : TakenPast (new_tables (realm g fits words w buffer at count after e)) (calls_from (records_of words))
@@ -64,7 +63,7 @@ module _ (g : Header) (fits : HeaderSized g) (words : List ℕ) (w : Words32 wor
   walk_taken =
       let p = written_passes g words buffer at count after e in
       walks.taken_past g.n (records_of words) (records_fit g.n fits.0 words w p.records) p.records (new_tables (realm g fits words w buffer at count after e))
-      (new_together g (realm g fits words w buffer at count after e) (new_tables (realm g fits words w buffer at count after e)) fits.2 fits.3 walk_opens (lends (realm g fits words w buffer at count after e))) refl
+      (new_together g (realm g fits words w buffer at count after e) (new_tables (realm g fits words w buffer at count after e)) fits.2 fits.3 (header_opens g fits words w buffer at count after e) (lends (realm g fits words w buffer at count after e))) refl
 
   -- So the listing of its bytes has `ok` for the header, a line for each record in turn, and the last line: 1, 2 and 3 do not arise.
   pub written_listed : listing_of (take count (drop at after)) ≡ header_line g.mark ++ call_lines 1 (new_tables (realm g fits words w buffer at count after e)) (calls_from (records_of words)) ended
@@ -72,5 +71,5 @@ module _ (g : Header) (fits : HeaderSized g) (words : List ℕ) (w : Words32 wor
   written_listed =
       let r = read_back g words buffer at count after e fits w in
       let file = take count (drop at after) in
-      ap (header_lines file) r.header ∙ ap (opening_lines g.mark file) walk_opens
+      ap (header_lines file) r.header ∙ ap (opening_lines g.mark file) (header_opens g fits words w buffer at count after e)
       ∙ ap (λ (cs : Calls). header_line g.mark ++ call_lines 1 (new_tables (realm g fits words w buffer at count after e)) cs.calls cs.ending) r.records

@@ -2,7 +2,6 @@
 -- Assumes nothing.
 use Rattle.std.specs.Prelude.{◌≡◌, refl, List, [], ◌∷◌, ℕ}
 use Rattle.std.proofs.Common.{ap, ◌∙◌, arith}
-use Rattle.exchange.specs.declared.call.Answer.TheVariants.{Refused}
 use Rattle.exchange.specs.declared.call.Call.{Call}
 use Rattle.exchange.specs.declared.call.Call.TheVariants as calls
 use Rattle.exchange.specs.Calls.{Sized}
