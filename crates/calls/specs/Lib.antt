@@ -1,4 +1,4 @@
--- The public calls on the caller's own tables. Promises is to be read first.
+-- The public calls on the caller's own tables. proofs/Promises is to be read first.
 pub mod Lent
 pub mod Lists
 pub mod Known

@@ -1,2 +1,2 @@
--- Two texts side by side. Promises is to be read first.
+-- Two texts side by side. proofs/Promises is to be read first.
 pub mod Compare

@@ -1,2 +1,2 @@
--- The conditions that steps share. Promises is to be read first.
+-- The conditions that steps share. proofs/Promises is to be read first.
 pub mod Conditions

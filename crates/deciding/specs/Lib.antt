@@ -2,4 +2,3 @@
 -- step, `Decided` says what can be written. `Laid` says that what is laid out is what is sent.
 pub mod Decided
 pub mod Layout
-pub mod Laws

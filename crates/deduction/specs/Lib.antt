@@ -1,4 +1,4 @@
--- What the intruder can derive. Promises is to be read first.
+-- What the intruder can derive. proofs/Promises is to be read first.
 pub mod Derives
 pub mod Secrecy
 pub mod Public

@@ -1,3 +1,3 @@
--- Drafts of messages. Promises is to be read first.
+-- Drafts of messages. proofs/Promises is to be read first.
 pub mod Draft
 pub mod Writes

@@ -2,4 +2,3 @@ pub mod Apply
 pub mod Call
 pub mod Row
 pub mod Cache
-pub mod Laws

@@ -1,4 +1,4 @@
--- What the fields of a line are, and what writing one does to a buffer. Promises is to be read first.
+-- What the fields of a line are, and what writing one does to a buffer. proofs/Promises is to be read first.
 pub mod Bytes
 pub mod Fields
 pub mod Placed

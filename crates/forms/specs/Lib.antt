@@ -1,5 +1,5 @@
 -- The messages that steps 3 to 6 take: `Forms` those of 3 and 6, `Grant` that of 4, `Delivery` that of 5, a ticket and an authenticator.
--- Promises is to be read first.
+-- proofs/Promises is to be read first.
 pub mod Forms
 pub mod Grant
 pub mod Delivery

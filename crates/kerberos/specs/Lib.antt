@@ -1,4 +1,4 @@
--- The Kerberos exchange and demand 3. Theorems is to be read first.
+-- The Kerberos exchange and demand 3. proofs/Theorems is to be read first.
 pub mod Messages
 pub mod Log
 pub mod Rules
@@ -6,5 +6,3 @@ pub mod Reading
 pub mod Words
 pub mod Agreement
 pub mod Entries
-pub mod Examples
-pub mod Laws

@@ -1,2 +1,2 @@
--- The messages that steps send. Promises is to be read first.
+-- The messages that steps send. proofs/Promises is to be read first.
 pub mod Drafts

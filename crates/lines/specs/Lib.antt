@@ -1,2 +1,2 @@
--- What the lines of the listing are, and how long. Promises is to be read first.
+-- What the lines of the listing are, and how long. proofs/Promises is to be read first.
 pub mod Lines

@@ -1,5 +1,5 @@
 -- The refusals of a call's fields are the writer's, which look at the fields alone, and behind them 6 for what depends on the walk:
--- a run or a term that is not walkHas, or a key of another kind.
+-- a run or a term that is not present, or a key of another kind.
 -- Assumes nothing.
 use Rattle.std.specs.Prelude.{Bool, not, ◌&&◌, ◌||◌, List, eqb}
 use Rattle.std.proofs.Math.Bool.{true, cond}
@@ -21,7 +21,7 @@ abbrev pub fields_refusal : Realm → List ℕ → Call → ℕ
 fields_refusal h ts (Term kind l r) = refusal_of h.n ts h.terms (packed kind l r)
 fields_refusal h ts (Step step run a b m t) = input_refusal h (step_fields step run a b m t)
 
--- not: "term not walkHas, .. lock key of another kind"; only pairs and encryptions name terms
+-- not: "term not present, .. lock key of another kind"; only pairs and encryptions name terms
 abbrev pub has_terms : Realm → List ℕ → (kind l r : ℕ) → Bool
 has_terms h ts kind l r =
     cond (eqb kind 5) (ltb l h.terms && ltb r h.terms)

@@ -1,4 +1,4 @@
--- The list of records that is handed in, and what turns one away. Promises is to be read first.
+-- The list of records that is handed in, and what turns one away. proofs/Promises is to be read first.
 pub mod Raw
 pub mod Refusals
 pub mod Calls

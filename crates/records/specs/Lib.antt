@@ -1,4 +1,4 @@
--- The records of a walk file, read from its bytes. Promises is to be read first.
+-- The records of a walk file, read from its bytes. proofs/Promises is to be read first.
 pub mod Fields
 pub mod Headers
 pub mod Records

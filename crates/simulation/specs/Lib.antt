@@ -1,4 +1,4 @@
--- The tables and the exchange side by side, and so demand 3 of every list of calls. Laws only; Promises is to be read first.
+-- The tables and the exchange side by side, and so demand 3 of every list of calls. Laws only; proofs/Promises is to be read first.
 pub mod Values
 pub mod Engine
 pub mod Unread

@@ -1,2 +1,2 @@
-// No code: specs/ has the laws by which the tables follow the exchange's reading.
+// No code: specs/ says what of the tables stands for the exchange, and proofs/ that the tables follow its reading.
 #![tactic(auto)]

@@ -1,4 +1,4 @@
--- The derivability test. Promises is to be read first.
+-- The derivability test. proofs/Promises is to be read first.
 pub mod Sweep
 pub mod Compose
 pub mod Test

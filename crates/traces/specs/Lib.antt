@@ -1,4 +1,4 @@
--- What every protocol shares. Promises is to be read first.
+-- What every protocol shares. proofs/Promises is to be read first.
 pub mod Lists
 pub mod Realm
 pub mod Terms

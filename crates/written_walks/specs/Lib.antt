@@ -1,3 +1,3 @@
--- The laws of a walk that was written. Promises is to be read first.
+-- The laws of a walk that was written. proofs/Promises is to be read first.
 pub mod Stands
 pub mod ReadBack

@@ -1,2 +1,2 @@
-// No code: specs/ has the laws of a walk that was written: it reads back, and every other byte is kept.
+// No code: the laws of a walk that was written. It reads back, and every other byte is kept.
 #![tactic(auto)]

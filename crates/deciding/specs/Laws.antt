@@ -1,1 +1,0 @@
--- The laws by which the functions meet their contracts, one for each way out.

@@ -1,2 +1,0 @@
--- Small examples on the definitions: the theorem has something to say in each form, each of its conditions is needed, and what
--- stands in the ticket's place is passed on unopened.

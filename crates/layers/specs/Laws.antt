@@ -1,1 +1,0 @@
--- The proofs behind Promises and the contracts.
