@@ -2,19 +2,15 @@
 -- Assumes nothing.
 use Rattle.std.specs.Prelude.{◌≡◌, refl, Bool, true, false, cond, List, ℕ, zero, suc, ◌<◌, ◌≤◌, get_or}
 use Rattle.std.proofs.Common.{sym, ap, ◌∙◌, subst, inl, inr, ⊎_elim, le_refl, arith}
-use Rattle.marks.specs.Marks.{marked}
-use Rattle.words.specs.declared.Term.{Term}
 use Rattle.words.specs.declared.Term.TheVariants.{Encrypted}
-use Rattle.terms.proofs.Choice.{cond_elim, no_true}
+use Rattle.terms.proofs.Choice.{no_true}
 use Rattle.terms.specs.Meaning.{Under}
 use Rattle.terms.proofs.Meaning.{under_at}
-use Rattle.terms.proofs.Operands.{operands_elim}
 use Rattle.terms.specs.Rules.{term_at, is_key}
 use Rattle.terms.specs.Valid.{Valid}
 use Rattle.terms.proofs.Valid.{fields_of_lem}
 use Rattle.worklist.specs.Chains.{LastUnder, Linked}
-use Rattle.worklist.specs.Found.{Found, learn_of, Room}
-use Rattle.worklist.proofs.FoundLaws.{learn_room}
+use Rattle.worklist.specs.Found.{Found}
 use Rattle.analysis.specs.Gives.{is_under, decrypt_of, under_of}
 use Rattle.analysis.proofs.Gives.{is_under_lem, under_is}
 
@@ -24,7 +20,6 @@ pub record Along (ts : List ℕ) (count k : ℕ) (f₀ f : Found) (e : ℕ) : Ty
   pub within : m ≤ count
   pub last : LastUnder ts k m e
   pub same : under_of ts k m f ≡ under_of ts k count f₀
-  pub room : Room f
 
 -- ---- the definition, along a chain
 
@@ -62,14 +57,9 @@ under_end {n} {ts} v k (suc m) h f l = by (is_under k (term_at ts m)) refl (unde
 
 -- ---- the walk
 
-decrypt_room : (f : Found) (e : ℕ) (t : Term) → Under 512 t → Room f → Room (decrypt_of f e t)
-decrypt_room f e t u r =
-    operands_elim Room f (λ l r. f) (λ b k. cond (marked f.known e) (learn_of f b) f) t r (λ l r' q. r)
-    (λ b k q. cond_elim Room (marked f.known e) (learn_of f b) f (λ _. learn_room f b (subst (Under 512) q u).0 r) (λ _. r))
-
 module _ {ts : List ℕ} {count : ℕ} {c : List ℕ} (l : Linked ts count c) (k : ℕ) where
-  pub along_start : k < count → is_key (term_at ts k) ≡ true → {f : Found} → Room f → Along ts count k f f (get_or c k 0)
-  along_start h key r = record { m = count; within = le_refl count; last = l.chains.last k h key; same = refl; room = r }
+  pub along_start : k < count → is_key (term_at ts k) ≡ true → {f : Found} → Along ts count k f f (get_or c k 0)
+  along_start h key = record { m = count; within = le_refl count; last = l.chains.last k h key; same = refl }
 
   module _ {f₀ f : Found} {e : ℕ} (a : Along ts count k f₀ f e) where
     -- it is a term of the table
@@ -96,7 +86,6 @@ module _ {ts : List ℕ} {count : ℕ} {c : List ℕ} (l : Linked ts count c) (k
             within = omega (arith, along_is.1);
             last = onward;
             same = ap (under_of ts k e) q ∙ sym (under_along ts k a.m f e a.last ne) ∙ a.same;
-            room = subst Room (sym q) (decrypt_room f e (term_at ts e) along_under a.room);
           }
 
     pub along_end : e ≡ 0 → f ≡ under_of ts k count f₀

@@ -1,16 +1,15 @@
 -- The terms on the wire are found first. Then each found term is looked at once, in the order of the list; what it gives goes
 -- behind the others. When all have been looked at the set is saturated.
 -- Assumes nothing.
-use Rattle.std.specs.Prelude.{◌≡◌, refl, ◌⊎◌, true, cond, List, get_or, replicate}
+use Rattle.std.specs.Prelude.{◌≡◌, refl, ◌⊎◌, true, cond, List, get_or}
 use Rattle.std.proofs.Common.{sym, ap, ◌∙◌, inl, inr, ⊎_elim, le_refl, arith}
 use Rattle.std.proofs.Math.Path.{subst}
 use Rattle.std.proofs.Math.Logic.{dite}
 use Prim.Native.Nat.{ℕ, zero, suc, ◌+◌, ◌<◌, ◌≤◌}
 use Rattle.std.proofs.Math.Decide.{ℕ_discrete}
-use Rattle.std.proofs.lemmas.List.{length-replicate}
 use Rattle.marks.specs.Marks.{marked}
 use Rattle.marks.proofs.Size.{size_le}
-use Rattle.marks.proofs.Empty.{empty_words, empty_marked, empty_size}
+use Rattle.marks.proofs.Empty.{empty_marked}
 use Rattle.marks.specs.Within.{Below}
 use Rattle.words.specs.declared.Term.TheVariants.{Pair, Encrypted}
 use Rattle.terms.proofs.Choice.{cond_elim, no_true}
@@ -18,8 +17,8 @@ use Rattle.terms.specs.Rules.{term_at}
 use Rattle.terms.specs.Valid.{Valid}
 use Rattle.terms.proofs.Valid.{fields_of_lem}
 use Rattle.deduction.specs.Derives.{on_wire}
-use Rattle.worklist.specs.Found.{Found, as_found, learn_of, start_of, Room, Listed}
-use Rattle.worklist.proofs.FoundLaws.{notice_room, learn_marks, learn_new, listed_none}
+use Rattle.worklist.specs.Found.{Found, blank, learn_of, start_of, Room, Listed}
+use Rattle.worklist.proofs.FoundLaws.{notice_room, learn_marks, learn_new, blank_listed}
 use Rattle.analysis.specs.Gives.{given_of}
 use Rattle.analysis.proofs.Gives.{Work, Step, learn_step, step_refl, given_step, given_halves, given_body, given_under}
 use Rattle.deduction.specs.Known.{Filled}
@@ -183,13 +182,6 @@ module _ (flags : ℕ) {n : ℕ} {ts : List ℕ} {count : ℕ} (v : Valid n ts c
         bodies i b k m e (inr pk) p = x.done.public p.0 b k p.1 (ap (term_at ts) p.2 ∙ e) pk
 
 -- ---- the whole
-
--- nothing has been found
-abbrev pub blank : Found
-blank = as_found (replicate 8 0) (replicate 512 0) 0
-
-pub blank_listed : (count : ℕ) → Listed count blank
-blank_listed count = listed_none count (empty_words 8) (empty_marked 8) (empty_size 8) (length-replicate {A = ℕ} 512 0)
 
 start_room : (ws : List ℕ) (m : ℕ) → m ≤ 512 → Room (start_of ws m blank)
 unfolding start_of

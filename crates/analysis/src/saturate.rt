@@ -7,131 +7,90 @@ ghost use Rattle.marks.specs.Within.{Below};
 ghost use Rattle.deduction.specs.Known.{Filled};
 ghost use Rattle.deduction.specs.Opens.{opens_of};
 ghost use Rattle.worklist.specs.Chains.{Chained, Linked};
-ghost use Rattle.worklist.specs.Found.{Room, Listed, as_found};
+ghost use Rattle.worklist.specs.Found.{Listed};
 ghost use Rattle.analysis.specs.Gives.{decrypt_of, under_of, parts_of, given_of};
 
 use deduction::{Principals, is_public};
-use marks::is_marked;
 use term_rules::is_key;
-use words::{Term, decode};
+use words::Term;
 use worklist::chains::chain;
-use worklist::found::{learn, start};
+use worklist::found::Found;
 
 // Whether encryptions under key k can be opened: it is known or public.
-fn opens(terms: &[u64], flags: u32, set: &[u64], k: usize) -> bool
-    requires { (length terms.now ≡ 512) × (length set.now ≡ 8) × (k < 512) }
-    ensures { result ≡ opens_of flags terms.now set.now k }
+fn opens(terms: &[u64], flags: u32, found: &Found, k: usize) -> bool
+    requires { (length terms.now ≡ 512) × (k < 512) }
+    ensures { result ≡ opens_of flags terms.now found.now.known k }
 {
-    if is_marked(set, k) {
-        return true;
-    }
-    is_public(flags, decode(terms[k]))
+    found.has(k) || is_public(flags, Term::from(terms[k]))
 }
 
 // Decrypts term e, if it is an encryption that has been found.
-fn decrypt(set: &mut [u64], list: &mut [u16], found: usize, e: usize, t: Term) -> usize
-    requires { Room (as_found set.old list.old found) × (e < 512) × Under 512 t }
-    ensures { as_found set.new list.new result ≡ decrypt_of (as_found set.old list.old found) e t }
+fn decrypt(found: &mut Found, e: usize, t: Term)
+    requires { (e < 512) × Under 512 t }
+    ensures { found.new ≡ decrypt_of found.old e t }
 {
-    match t {
-        Term::Encrypted(b, _) => {
-            if !is_marked(set, e) {
-                return found;
-            }
-            learn(set, list, found, b as usize)
+    if let Term::Encrypted(b, _) = t {
+        if found.has(e) {
+            found.learn(b as usize);
         }
-        _ => found,
     }
 }
 
 // Decrypts the encryptions under key k that have been found, along its chain.
-fn decrypt_under(
-    terms: &[u64],
-    count: usize,
-    chains: &[u16],
-    set: &mut [u64],
-    list: &mut [u16],
-    found: usize,
-    k: usize,
-) -> usize
-    requires { Linked terms.now count chains.now × Room (as_found set.old list.old found) × (k < count) × (is_key (term_at terms.now k) ≡ true) }
-    ensures { as_found set.new list.new result ≡ under_of terms.now k count (as_found set.old list.old found) }
+fn decrypt_under(terms: &[u64], count: usize, chains: &[u16; 512], found: &mut Found, k: usize)
+    requires { Linked terms.now count chains.now × (k < count) × (is_key (term_at terms.now k) ≡ true) }
+    ensures { found.new ≡ under_of terms.now k count found.old }
 {
-    let mut total = found;
+    // A chain is followed from each of its terms to the one before, so no range or list says how long.
     let mut e = chains[k] as usize;
     while e != 0 {
-        total = decrypt(set, list, total, e, decode(terms[e]));
+        decrypt(found, e, Term::from(terms[e]));
         e = chains[e] as usize;
     }
-    total
 }
 
 // Finds what a pair or an encryption gives.
-fn parts(
-    terms: &[u64],
-    flags: u32,
-    set: &mut [u64],
-    list: &mut [u16],
-    found: usize,
-    t: Term,
-) -> usize
-    requires { (length terms.now ≡ 512) × Room (as_found set.old list.old found) × Under 512 t }
-    ensures { as_found set.new list.new result ≡ parts_of flags terms.now (as_found set.old list.old found) t }
+fn parts(terms: &[u64], flags: u32, found: &mut Found, t: Term)
+    requires { (length terms.now ≡ 512) × Under 512 t }
+    ensures { found.new ≡ parts_of flags terms.now found.old t }
 {
     match t {
         Term::Pair(l, r) => {
-            let half = learn(set, list, found, l as usize);
-            learn(set, list, half, r as usize)
+            found.learn(l as usize);
+            found.learn(r as usize);
         }
         Term::Encrypted(b, k) => {
-            if !opens(terms, flags, set, k as usize) {
-                return found;
+            if opens(terms, flags, found, k as usize) {
+                found.learn(b as usize);
             }
-            learn(set, list, found, b as usize)
         }
-        _ => found,
+        _ => {}
     }
 }
 
 // Finds what term i gives.
-fn visit(
-    terms: &[u64],
-    count: usize,
-    flags: u32,
-    chains: &[u16],
-    set: &mut [u64],
-    list: &mut [u16],
-    found: usize,
-    i: usize,
-) -> usize
-    requires { Linked terms.now count chains.now × Room (as_found set.old list.old found) × (i < count) }
-    ensures { as_found set.new list.new result ≡ given_of flags terms.now count (as_found set.old list.old found) i }
+fn visit(terms: &[u64], count: usize, flags: u32, chains: &[u16; 512], found: &mut Found, i: usize)
+    requires { Linked terms.now count chains.now × (i < count) }
+    ensures { found.new ≡ given_of flags terms.now count found.old i }
 {
-    let t = decode(terms[i]);
+    let t = Term::from(terms[i]);
     if is_key(t) {
-        return decrypt_under(terms, count, chains, set, list, found, i);
+        decrypt_under(terms, count, chains, found, i);
+    } else {
+        parts(terms, flags, found, t);
     }
-    parts(terms, flags, set, list, found, t)
 }
 
 // Looks at each term that has been found, once and in the order of the list. What it gives goes behind the others.
-fn explore(
-    terms: &[u64],
-    count: usize,
-    who: Principals,
-    chains: &[u16],
-    set: &mut [u64],
-    list: &mut [u16],
-    found: usize,
-)
-    requires { Valid who.n terms.now count × Chained terms.now count count chains.now × Listed count (as_found set.old list.old found) }
-    ensures { Filled who.n who.flags terms.now count set.old set.new × Below count set.new }
+fn explore(terms: &[u64], count: usize, who: Principals, chains: &[u16; 512], found: &mut Found)
+    requires { Valid who.n terms.now count × Chained terms.now count count chains.now × Listed count found.old }
+    ensures { Filled who.n who.flags terms.now count found.old.known found.new.known × Below count found.new.known }
 {
-    let mut total = found;
+    // The list grows while it is gone through, so no range says how far.
     let mut done: usize = 0;
-    while done < total {
-        let i = list[done] as usize;
-        total = visit(terms, count, who.flags, chains, set, list, total, i);
+    while done < found.count() {
+        let i = found.at(done);
+        visit(terms, count, who.flags, chains, found, i);
         done += 1;
     }
 }
@@ -143,9 +102,7 @@ pub fn saturate(terms: &[u64], count: usize, who: Principals, wire: &[u64]) -> [
 {
     let mut chains = [0u16; 512];
     chain(terms, count, &mut chains);
-    let mut set = [0u64; 8];
-    let mut list = [0u16; 512];
-    let found = start(wire, count, &mut set, &mut list);
-    explore(terms, count, who, &chains, &mut set, &mut list, found);
-    set
+    let mut found = Found::on_wire(wire, count);
+    explore(terms, count, who, &chains, &mut found);
+    found.known()
 }

@@ -21,27 +21,16 @@
 //   F  b, clock, La: forgets b's entries, likewise
 #![tactic(auto)]
 
-mod lent;
-mod obey;
 mod show;
 mod world;
 
-use obey::obey;
-use world::new;
-
-// Lines at most.
-const LINES: usize = 65536;
+use cases::LINES;
+use world::World;
 
 fn main() {
-    let mut w = new();
-    let mut i: usize = 0;
-    while i < LINES {
-        let line = cases::next();
-        if line.letter == 0 {
-            break;
-        }
-        let after = obey(w, line);
-        w = after;
-        i += 1;
+    let mut world = World::new();
+    for _ in 0..LINES {
+        let Some(line) = cases::next() else { break };
+        world.obey(line);
     }
 }

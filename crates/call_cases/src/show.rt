@@ -1,6 +1,6 @@
 // Writing answers, and what has changed.
-use cases::{print_changes, print_number};
-use exchange::call::{Answer, Names};
+use cases::{print_changes, print_number, print_refused};
+use exchange::call::{Accepted, Answer};
 use realm::header::Realm;
 use replay::entry::Entry;
 
@@ -8,17 +8,13 @@ pub fn print_ok() {
     io::write_all(1, b": ok");
 }
 
-pub fn print_refused(number: u8) {
-    print_number(b": refused ", number as u64);
-}
-
-fn print_names(names: Names) {
+fn print_names(names: Option<u8>) {
     print_ok();
     match names {
-        Names::Run(r) => {
+        Some(r) => {
             print_number(b" ", r as u64);
         }
-        Names::Nobody => {
+        None => {
             io::write_all(1, b" -");
         }
     }
@@ -27,21 +23,19 @@ fn print_names(names: Names) {
 // What a call was answered.
 pub fn print_answer(answer: Answer) {
     match answer {
-        Answer::Old(i) => {
+        Ok(Accepted::Old(i)) => {
             print_number(b": term ", i as u64);
             io::write_all(1, b" old");
         }
-        Answer::New(i) => {
+        Ok(Accepted::New(i)) => {
             print_number(b": term ", i as u64);
             io::write_all(1, b" new");
         }
-        Answer::Ok { names, added } => {
+        Ok(Accepted::Taken { names, added }) => {
             print_names(names);
             print_number(b" +", added as u64);
         }
-        Answer::Refused(number) => {
-            print_refused(number);
-        }
+        Err(refusal) => print_refused(u8::from(refusal)),
     }
 }
 
@@ -67,41 +61,25 @@ pub fn print_realm(before: Realm, after: Realm) {
     print_changes(b", field ", &old, &new);
 }
 
-// Word i of the table of runs: the run, and the place of the word in it.
-fn print_run(i: usize, value: u32) {
-    print_number(b", run ", (i / 7) as u64);
-    print_number(b".", (i % 7) as u64);
-    print_number(b" = ", value as u64);
-}
-
-// Writes each word of the table of runs that has changed.
-pub fn print_runs(before: [u32; 449], after: [u32; 449]) {
-    let mut i: usize = 0;
-    while i < 449 {
-        if before[i] != after[i] {
-            print_run(i, after[i]);
+// Writes each word of the table of runs that has changed: the run, and the place of the word in it.
+pub fn print_runs(before: &[u32], after: &[u32]) {
+    for (i, (old, new)) in before.iter().zip(after).enumerate() {
+        if old != new {
+            print_number(b", run ", (i / 7) as u64);
+            print_number(b".", (i % 7) as u64);
+            print_number(b" = ", u64::from(*new));
         }
-        i += 1;
     }
-}
-
-fn print_entry(place: usize, before: Entry, after: Entry) {
-    if (before.b == after.b) & (before.k == after.k) & (before.ta == after.ta) {
-        return;
-    }
-    print_number(b", entry ", place as u64);
-    print_number(b" = ", after.b as u64);
-    print_number(b" ", after.k as u64);
-    print_number(b" ", after.ta as u64);
 }
 
 // Writes each place of the cache that has changed.
-pub fn print_cache(before: [Entry; 17], after: [Entry; 17]) {
-    let mut i: usize = 0;
-    while i < 17 {
-        let old = before[i];
-        let new = after[i];
-        print_entry(i, old, new);
-        i += 1;
+pub fn print_cache(before: &[Entry], after: &[Entry]) {
+    for (i, (old, new)) in before.iter().zip(after).enumerate() {
+        if old != new {
+            print_number(b", entry ", i as u64);
+            print_number(b" = ", u64::from(new.b));
+            print_number(b" ", u64::from(new.k));
+            print_number(b" ", u64::from(new.ta));
+        }
     }
 }

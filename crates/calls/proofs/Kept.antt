@@ -1,15 +1,13 @@
 -- What the public call leaves as it was and what it answers, from what the call by value does.
 -- Assumes nothing.
-use Rattle.std.specs.Prelude.{ℕ, ◌+◌, ◌<◌, ◌≡◌, refl, true, ◌↔◌, eqb, length}
+use Rattle.std.specs.Prelude.{ℕ, ◌+◌, ◌<◌, ◌≡◌, refl, true, ◌↔◌, eqb, length, Err}
 use Rattle.std.proofs.Common.{sym, ap, subst, ◌∙◌}
 use Rattle.std.proofs.Math.Option.{some}
 use Rattle.terms.proofs.Choice.{cond_elim}
 use Rattle.terms.specs.Message.{session, Message, key}
-use Rattle.exchange.specs.declared.call.Answer.{Answer}
-use Rattle.exchange.specs.declared.call.Answer.TheVariants.{Refused}
 use Rattle.exchange.specs.declared.call.Call.{Call}
 use Rattle.exchange.specs.declared.call.Call.TheVariants.{Term, Step}
-use Rattle.exchange.specs.Calls.{accepts, Sized}
+use Rattle.exchange.specs.Calls.{Answer, accepts, Sized}
 use Rattle.traces.specs.Realm.{Realm}
 use Rattle.traces.specs.RuleSets.{Reading}
 use Rattle.traces.specs.Terms.{message_from}
@@ -34,9 +32,9 @@ use Rattle.calls.specs.Lent.{lent_call}
 use Rattle.calls.proofs.Same.{lent_called}
 
 abbrev Keeps : Tables → (k : ℕ) → Outcome → Type 0
-Keeps t k o = o.answer ≡ Refused k → o.tables ≡ t
+Keeps t k o = o.answer ≡ Err k → o.tables ≡ t
 
-pub refused_kept : (t : Tables) (c : Call) {k : ℕ} → (lent_call t c).answer ≡ Refused k → (lent_call t c).tables ≡ t
+pub refused_kept : (t : Tables) (c : Call) {k : ℕ} → (lent_call t c).answer ≡ Err k → (lent_call t c).tables ≡ t
 unfolding lent_call checked
 refused_kept t c {k} =
     cond_elim (Keeps t k) (eqb (length t.cache) 16) (checked t c) (refuse t 10)
@@ -49,7 +47,7 @@ module _ (t : Tables) (c : Call) (w : Together t) where
   same_tables : (lent_call t c).tables ≡ (called t c).tables
   same_tables = ap (λ (o : Outcome). o.tables) (lent_called t c w)
 
-  pub never_10 : ¬ ((lent_call t c).answer ≡ Refused 10)
+  pub never_10 : ¬ ((lent_call t c).answer ≡ Err 10)
   never_10 e = effects.never_10 t c (sym same_answer ∙ e)
 
 pub query_kept : (t : Tables) → Together t → (r a b m now : ℕ) → (lent_call t (Step 10 r a b m now)).tables ≡ t
@@ -76,15 +74,15 @@ module _ {R : Realm} {t : Tables} {ρ : Reading Event} (f : Follows R t ρ) wher
   pub terms_grow : (c : Call) → Sized c → GrowsBy R ρ c (lent_call t c).answer
   terms_grow c size = subst (GrowsBy R ρ c) (sym (same_answer t c f.together)) (simulation.terms_grow R t ρ f c size)
 
-  pub underivable_exact : (step r a b m now : ℕ) → let answer = (lent_call t (Step step r a b m now)).answer in (answer ≡ Refused 15) ↔ Barred R ρ step m answer
+  pub underivable_exact : (step r a b m now : ℕ) → let answer = (lent_call t (Step step r a b m now)).answer in (answer ≡ Err 15) ↔ Barred R ρ step m answer
   underivable_exact step r a b m now =
-      subst (λ (x : Answer). (x ≡ Refused 15) ↔ Barred R ρ step m x) (sym (same_answer t (Step step r a b m now) f.together))
+      subst (λ (x : Answer). (x ≡ Err 15) ↔ Barred R ρ step m x) (sym (same_answer t (Step step r a b m now) f.together))
       (simulation.underivable_exact R t ρ f step r a b m now)
 
   pub ahead_exact : (r m a b k ts ta : ℕ) → Passes17 R ρ r m a b k ts ta
-      → ((lent_call t (Step 5 r 0 0 m 0)).answer ≡ Refused 22) ↔ (clock ρ.log + R.auth_life < ta)
+      → ((lent_call t (Step 5 r 0 0 m 0)).answer ≡ Err 22) ↔ (clock ρ.log + R.auth_life < ta)
   ahead_exact r m a b k ts ta p =
-      subst (λ (x : Answer). (x ≡ Refused 22) ↔ (clock ρ.log + R.auth_life < ta)) (sym (same_answer t (Step 5 r 0 0 m 0) f.together))
+      subst (λ (x : Answer). (x ≡ Err 22) ↔ (clock ρ.log + R.auth_life < ta)) (sym (same_answer t (Step 5 r 0 0 m 0) f.together))
       (simulation.ahead_exact R t ρ f r m a b k ts ta p)
 
 -- ---- what is not read

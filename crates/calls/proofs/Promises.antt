@@ -2,12 +2,11 @@
 -- every table afterwards. Reading order: Lent (one call), Lists (a list of them, each on the tables that the one before it left). And of
 -- `known`, and so of `pogandir_known`: an equation with `known_of` (Known), the answer and every word of the set.
 -- Assumes nothing.
-use Rattle.std.specs.Prelude.{ℕ, ◌+◌, ◌^◌, ◌<◌, ◌≡◌, true, List, ◌∷◌, ◌↔◌, length, get_or}
+use Rattle.std.specs.Prelude.{ℕ, ◌+◌, ◌^◌, ◌<◌, ◌≡◌, true, List, ◌∷◌, ◌↔◌, length, get_or, Ok, Err}
 use Rattle.std.proofs.Math.Option.{some}
 use Rattle.marks.specs.Marks.{marked}
 use Rattle.terms.specs.Message.{session, Message, key}
 use Rattle.deduction.specs.Known.{Derivable}
-use Rattle.exchange.specs.declared.call.Answer.TheVariants.{Refused}
 use Rattle.exchange.specs.declared.call.Call.{Call}
 use Rattle.exchange.specs.declared.call.Call.TheVariants.{Term, Step}
 use Rattle.exchange.specs.Calls.{accepts, added_by, Sized, AllSized}
@@ -22,7 +21,6 @@ use Rattle.exchange.specs.Forms.{form_of}
 use Rattle.kerberos.specs.Reading.{set_of}
 use Rattle.kerberos.specs.Rules.{Takes}
 use Rattle.kerberos.proofs.Theorems.{demand3, secret_keys, entries}
-use Rattle.realm.specs.declared.header.Opening.TheVariants.{Open}
 use Rattle.realm.specs.declared.header.Realm.{Realm}
 use Rattle.realm.specs.New.{Lends}
 use Rattle.exchange.specs.declared.header.Header.{Header}
@@ -46,7 +44,7 @@ use Rattle.calls.proofs.Same.{lent_follows, lent_lawful, lent_agrees}
 -- ---- one call, on any tables
 
 -- "A refusal is its number alone. State, wire, cache and terms stay unchanged": the realm and every place of every table.
-pub refused_kept : (t : Tables) (c : Call) {k : ℕ} → (lent_call t c).answer ≡ Refused k → (lent_call t c).tables ≡ t
+pub refused_kept : (t : Tables) (c : Call) {k : ℕ} → (lent_call t c).answer ≡ Err k → (lent_call t c).tables ≡ t
 refused_kept t c e = kept.refused_kept t c e
 
 -- "Places at or past a table's count are never read": on tables that hold together and are alike below the counts the answer is the
@@ -65,7 +63,7 @@ known_exact h ts ws out given fit i = known.known_exact h ts ws out given fit i
 
 -- ---- every list of calls from a new realm: what `open_realm` gave, and the caller's own tables, whatever stands in their places
 
-module _ (g : Header) (ls_fits : g.ls < 2 ^ 32) (la_fits : g.la < 2 ^ 32) (h : Realm) (opened : opening_of g ≡ Open h)
+module _ (g : Header) (ls_fits : g.ls < 2 ^ 32) (la_fits : g.la < 2 ^ 32) (h : Realm) (opened : opening_of g ≡ Ok h)
     (t : Tables) (lends : Lends h t) (cs : List Call) (sized : AllSized cs) where
   new : New (header h) t
   new = opened_new g h t ls_fits la_fits opened lends
@@ -110,16 +108,16 @@ module _ (g : Header) (ls_fits : g.ls < 2 ^ 32) (la_fits : g.la < 2 ^ 32) (h : R
   -- 15 is given exactly where the table of refusals has it for the step, the intruder cannot deliver m, and no refusal before it was
   -- given.
   pub public_underivable : (step r a b m now : ℕ) → let answer = (lent_call (lent_after t cs) (Step step r a b m now)).answer in
-      (answer ≡ Refused 15) ↔ Barred (header h) (reading (set_of (header h)) (lent_history t cs)) step m answer
+      (answer ≡ Err 15) ↔ Barred (header h) (reading (set_of (header h)) (lent_history t cs)) step m answer
   public_underivable step r a b m now = kept.underivable_exact (lent_follows (header h) t new cs sized) step r a b m now
 
   -- 22 is given to a delivery that nothing before it bars exactly where its Ta is above clock + La.
   pub public_ahead : (r m a b k ts ta : ℕ) → let ρ = reading (set_of (header h)) (lent_history t cs) in
-      Passes17 (header h) ρ r m a b k ts ta → ((lent_call (lent_after t cs) (Step 5 r 0 0 m 0)).answer ≡ Refused 22) ↔ (clock ρ.log + (header h).auth_life < ta)
+      Passes17 (header h) ρ r m a b k ts ta → ((lent_call (lent_after t cs) (Step 5 r 0 0 m 0)).answer ≡ Err 22) ↔ (clock ρ.log + (header h).auth_life < ta)
   public_ahead r m a b k ts ta p = kept.ahead_exact (lent_follows (header h) t new cs sized) r m a b k ts ta p
 
   -- Its tables never meet 10,
-  pub public_never_10 : (c : Call) → ¬ ((lent_call (lent_after t cs) c).answer ≡ Refused 10)
+  pub public_never_10 : (c : Call) → ¬ ((lent_call (lent_after t cs) c).answer ≡ Err 10)
   public_never_10 c e = kept.never_10 (lent_after t cs) c (lent_follows (header h) t new cs sized).together e
 
   -- a step 10 changes nothing,

@@ -8,19 +8,13 @@ ghost use Rattle.realm.specs.Tables.{tables};
 ghost use Rattle.calls.specs.Lent.{lent_outcome, lent_call};
 
 use effects::apply::After;
+pub use engine::call::Called;
 use engine::lent::checked_call;
-use exchange::call::{Answer, Call};
+use exchange::call::Call;
 use lent_cache::{load, store};
 use realm::header::Realm;
+use refusals::Refusal;
 use replay::entry::{Entry, PLACES};
-use terms::rules::REFUSE_TABLES;
-
-// A realm after a call, and the answer.
-#[derive(Clone, Copy)]
-pub struct Called {
-    pub realm: Realm,
-    pub answer: Answer,
-}
 
 // Adds a term or takes a step, if the tables hold together. Nothing is required of what is lent.
 pub fn call(
@@ -36,7 +30,7 @@ pub fn call(
     if list.len() != PLACES {
         return Called {
             realm: h,
-            answer: Answer::Refused(REFUSE_TABLES),
+            answer: Err(Refusal::Tables),
         };
     }
     let after = checked_call(h, terms, runs, wire, load(list), c);

@@ -3,13 +3,20 @@
 // filled up with dots.
 #![tactic(auto)]
 
-ghost use Rattle.std.specs.Prelude.{◌≤◌};
+use refusals::Refusal;
+
+const STDIN: i32 = 0;
+
+const STDOUT: i32 = 1;
+
+// Lines that a program reads at most.
+pub const LINES: usize = 65536;
 
 // The bytes of a line, with its end.
 pub const LINE: usize = 68;
 
 // Numbers in a line, and the bytes from one to the next.
-const NUMBERS: usize = 6;
+pub const NUMBERS: usize = 6;
 
 const STRIDE: usize = 11;
 
@@ -18,121 +25,96 @@ const FIRST: usize = 2;
 
 const LAST: usize = 67;
 
-// A line's letter, its numbers in their order, and all its bytes. The letter is 0 where the input has ended.
+// A line's letter, its numbers in their order, and all its bytes.
 #[derive(Clone, Copy)]
 pub struct Line {
     pub letter: u8,
-    pub a: u32,
-    pub b: u32,
-    pub c: u32,
-    pub d: u32,
-    pub e: u32,
-    pub f: u32,
-    pub bytes: [u8; 68],
+    pub numbers: [u32; NUMBERS],
+    pub bytes: [u8; LINE],
 }
 
-// A blank counts as 0.
-fn digit(byte: u8) -> u64
-    ensures { result ≤ 15 }
-{
-    (byte as u64) % 16
-}
-
-// The number in a column.
-fn number(bytes: [u8; 68], column: usize) -> u32 {
-    if NUMBERS <= column {
-        return 0;
+// The number in ten places. A blank counts as 0.
+fn number(places: &[u8]) -> u32 {
+    let mut sum: u32 = 0;
+    for byte in places {
+        sum = sum.wrapping_mul(10).wrapping_add(u32::from(*byte % 16));
     }
-    let first = column * STRIDE;
-    let mut sum: u64 = 0;
-    let mut i: usize = FIRST;
-    while i <= STRIDE {
-        sum = (sum * 10 + digit(bytes[first + i])) % 4294967296;
-        i += 1;
-    }
-    sum as u32
+    sum
 }
 
-fn parsed(letter: u8, bytes: [u8; 68]) -> Line {
-    Line {
-        letter,
-        a: number(bytes, 0),
-        b: number(bytes, 1),
-        c: number(bytes, 2),
-        d: number(bytes, 3),
-        e: number(bytes, 4),
-        f: number(bytes, 5),
-        bytes,
-    }
-}
-
-// The next line of the standard input.
-pub fn next() -> Line {
-    let mut bytes = [0u8; 68];
-    if io::read_full(0, &mut bytes) < LINE {
-        return parsed(0, bytes);
-    }
-    parsed(bytes[0], bytes)
-}
-
-// Where the text of a line ends: the dots behind it are none of it.
-fn text_end(bytes: [u8; 68]) -> usize
-    ensures { (2 ≤ result) × (result ≤ 67) }
-{
-    let mut end: usize = LAST;
-    while FIRST < end {
-        if bytes[end - 1] != b'.' {
-            break;
+impl From<[u8; LINE]> for Line {
+    fn from(bytes: [u8; LINE]) -> Line {
+        let mut numbers = [0; NUMBERS];
+        for i in 0..NUMBERS {
+            let first = FIRST + STRIDE * i;
+            numbers[i] = number(&bytes[first..first + STRIDE - 1]);
         }
-        end -= 1;
+        Line {
+            letter: bytes[0],
+            numbers,
+            bytes,
+        }
     }
-    end
 }
 
-// Writes the text of a line.
-pub fn print_text(bytes: [u8; 68]) {
-    let end = text_end(bytes);
-    io::write_all(1, &bytes[FIRST..end]);
+// The next line of the standard input, if there is one; one with the letter 0 is none.
+pub fn next() -> Option<Line> {
+    let mut bytes = [0u8; LINE];
+    if io::read_full(STDIN, &mut bytes) < LINE || bytes[0] == 0 {
+        return None;
+    }
+    Some(Line::from(bytes))
+}
+
+impl Line {
+    // Writes the text of a line: the dots behind it are none of it.
+    pub fn print_text(self) {
+        let text = &self.bytes[FIRST..LAST];
+        let end = text
+            .iter()
+            .rposition(|byte| *byte != b'.')
+            .map_or(0, |last| last + 1);
+        io::write_all(STDOUT, &text[..end]);
+    }
 }
 
 // The word of a term; its kind is any of 16 bits.
 pub fn word(kind: u32, l: u32, r: u32) -> u64 {
-    (kind as u64) % 65536 * 4294967296 + (l as u64) % 65536 * 65536 + (r as u64) % 65536
-}
-
-// The lesser number: of the places of a table, no more can be lent than there are.
-pub fn least(x: usize, y: usize) -> usize
-    ensures { result ≤ y }
-{
-    if x < y { x } else { y }
+    u64::from(kind) % 65536 * 4294967296 + u64::from(l) % 65536 * 65536 + u64::from(r) % 65536
 }
 
 // Writes a number behind its name.
 pub fn print_number(name: &[u8], n: u64) {
-    io::write_all(1, name);
-    io::print_decimal(1, n);
+    io::write_all(STDOUT, name);
+    io::print_decimal(STDOUT, n);
 }
 
-// Writes place i of a table if it has changed.
-fn print_change(name: &[u8], before: &[u64], after: &[u64], i: usize) {
-    if before.len() <= i {
-        return;
+// Writes the number of a refusal.
+pub fn print_refused(number: u8) {
+    print_number(b": refused ", u64::from(number));
+}
+
+// Writes whether the intruder can derive a term, and ends the line.
+pub fn print_derivable(answer: Result<bool, Refusal>) {
+    match answer {
+        Ok(true) => {
+            io::write_all(STDOUT, b": derivable");
+        }
+        Ok(false) => {
+            io::write_all(STDOUT, b": not derivable");
+        }
+        Err(refusal) => print_refused(u8::from(refusal)),
     }
-    if after.len() <= i {
-        return;
-    }
-    if before[i] != after[i] {
-        print_number(name, i as u64);
-        io::write_all(1, b" = ");
-        io::print_hex(1, after[i], 1);
-    }
+    io::write_all(STDOUT, b"\n");
 }
 
 // Writes each place of a table that has changed, with its word in base 16.
 pub fn print_changes(name: &[u8], before: &[u64], after: &[u64]) {
-    let mut i: usize = 0;
-    while i < before.len() {
-        print_change(name, before, after, i);
-        i += 1;
+    for (i, (old, new)) in before.iter().zip(after).enumerate() {
+        if old != new {
+            print_number(name, i as u64);
+            io::write_all(STDOUT, b" = ");
+            io::print_hex(STDOUT, *new, 1);
+        }
     }
 }

@@ -1,13 +1,10 @@
 -- Laws for the proofs of the code: two texts from a place on, the totals.
 -- Assumes nothing.
-use Rattle.std.specs.Prelude.{Bool, true, false, List, ◌≡◌, ℕ, ◌+◌, ◌<◌, ◌≤◌, length, drop, get_or}
-use Rattle.std.proofs.Common.{arith}
+use Rattle.std.specs.Prelude.{Some, None, Bool, true, false, List, [], ◌∷◌, ◌≡◌, refl, ℕ, ◌+◌, ◌<◌, ◌≤◌, ◌⊎◌, length}
+use Rattle.std.proofs.Common.{arith, inl, inr}
 use Rattle.std.proofs.Math.Numerals.{add-one}
-use Rattle.std.proofs.Math.ListN.{drop_of_length-le}
-use Rattle.std.proofs.Math.Seq.{drop-cons}
 use borrow.Author.Tests.{eq-eqb, ne_eqb}
 use Rattle.comparison.specs.declared.Totals.{Totals}
-use Rattle.comparison.specs.declared.Verdict.TheVariants.{Same, Line}
 use Rattle.comparison.specs.Compare.{line_after, difference, disagreements}
 
 -- ---- two texts from a place on
@@ -18,28 +15,28 @@ newline line byte next e n = rw (eq-eqb byte 10 e, ← add-one line) n
 pub other_byte : (line byte next : ℕ) → (byte ≡ 10 → ⊥) → next ≡ line → next ≡ line_after line byte
 other_byte line byte next e n = rw (ne_eqb byte 10 e) n
 
-module _ (line : ℕ) (a b : List ℕ) (i : ℕ) where
-  pub both_end : length a ≤ i → length b ≤ i → Same ≡ difference line (drop i a) (drop i b)
+-- where one of them has ended, they are the same exactly if the other has ended too
+pub both_end : (line : ℕ) (a b : List ℕ) → length a ≡ 0 → length b ≡ 0 → None ≡ difference line a b
+unfolding difference
+both_end line [] [] p q = refl
+both_end line [] (y ∷ ys) p q = absurd (omega arith)
+both_end line (x ∷ xs) b p q = absurd (omega arith)
+
+pub one_ends : (line : ℕ) (a b : List ℕ) → (length a ≡ 0) ⊎ (length b ≡ 0) → (length a ≡ length b → ⊥) → Some line ≡ difference line a b
+unfolding difference
+one_ends line [] [] e n = absurd (n refl)
+one_ends line [] (y ∷ ys) e n = refl
+one_ends line (x ∷ xs) [] e n = refl
+one_ends line (x ∷ xs) (y ∷ ys) e n = absurd (elim e [ inl p ↦ omega arith | inr q ↦ omega arith ])
+
+module _ (line : ℕ) (x y : ℕ) (xs ys : List ℕ) where
+  pub bytes_differ : (x ≡ y → ⊥) → Some line ≡ difference line (x ∷ xs) (y ∷ ys)
   unfolding difference
-  both_end p q = rw (drop_of_length-le a p, drop_of_length-le b q)
+  bytes_differ n = rw (ne_eqb x y n)
 
-  pub first_ends : length a ≤ i → i < length b → Line line ≡ difference line (drop i a) (drop i b)
+  pub goes_on : (next : ℕ) → x ≡ y → next ≡ line_after line x → difference next xs ys ≡ difference line (x ∷ xs) (y ∷ ys)
   unfolding difference
-  first_ends p q = rw (drop_of_length-le a p, drop-cons b i 0 q)
-
-  pub second_ends : i < length a → length b ≤ i → Line line ≡ difference line (drop i a) (drop i b)
-  unfolding difference
-  second_ends p q = rw (drop-cons a i 0 p, drop_of_length-le b q)
-
-  module _ (p : i < length a) (q : i < length b) where
-    pub bytes_differ : (get_or a i 0 ≡ get_or b i 0 → ⊥) → Line line ≡ difference line (drop i a) (drop i b)
-    unfolding difference
-    bytes_differ n = rw (drop-cons a i 0 p, drop-cons b i 0 q, ne_eqb (get_or a i 0) (get_or b i 0) n)
-
-    pub goes_on : (next : ℕ) → get_or a i 0 ≡ get_or b i 0 → next ≡ line_after line (get_or a i 0)
-        → difference next (drop (i + 1) a) (drop (i + 1) b) ≡ difference line (drop i a) (drop i b)
-    unfolding difference
-    goes_on next e n = rw (n, add-one i, drop-cons a i 0 p, drop-cons b i 0 q, eq-eqb (get_or a i 0) (get_or b i 0) e)
+  goes_on next e n = rw (n, eq-eqb x y e)
 
 -- ---- the totals
 

@@ -5,6 +5,7 @@ use Rattle.marks.specs.Marks.{Words}
 use Rattle.marks.specs.Within.{Below}
 use Rattle.terms.specs.Valid.{Valid}
 use Rattle.synthesis.specs.Knowledge.{Kept}
+use Rattle.synthesis.specs.declared.knowledge.Knowledge.{Knowledge}
 use Rattle.synthesis.specs.Test.{derivable_of}
 use Rattle.replay.specs.Cache.{cache_refusal}
 use Rattle.replay.specs.declared.entry.Entry.{Entry}
@@ -18,7 +19,7 @@ pub record Askable (h : Realm) (ts ws : List ℕ) (m : ℕ) : Type 0 where
   pub below : m < h.terms
 
 -- what is kept of what the intruder was found to know is true of these terms
-abbrev pub KeptBy : Realm → (ts ks : List ℕ) → Type 0
+abbrev pub KeptBy : Realm → (ts : List ℕ) → Knowledge → Type 0
 KeptBy h ts ks = Kept h.n h.flags ts h.terms ks
 
 -- "the intruder can build m"

@@ -2,22 +2,19 @@
 #![tactic(auto)]
 
 ghost use Rattle.std.specs.Prelude.{◌≡◌, ◌≤◌};
+ghost use Rattle.refusals.specs.Numbers.{number_of};
 ghost use Rattle.conditions.specs.Conditions.{Askable, KeptBy, derivable_at, ticket_lives, authenticator_lives, not_ahead, admission};
 
 use deduction::Principals;
 use realm::header::Realm;
-use replay::cache::refusal;
+use refusals::Refusal;
+use replay::cache::Cache;
 use replay::entry::Entry;
 use synthesis::compose::derivable;
-
-pub const REFUSE_TICKET: u8 = 16;
-
-pub const REFUSE_AUTHENTICATOR: u8 = 17;
-
-pub const REFUSE_AHEAD: u8 = 22;
+use synthesis::knowledge::Knowledge;
 
 // Whether the intruder can derive term m. What he is found to know is kept in `known` for the next question.
-pub fn can_deliver(h: Realm, terms: &[u64], wire: &[u64], known: &mut [u64], m: u16) -> bool
+pub fn can_deliver(h: Realm, terms: &[u64], wire: &[u64], known: &mut Knowledge, m: u16) -> bool
     requires { Askable h terms.now wire.now m × KeptBy h terms.now known.old }
     ensures { (result ≡ derivable_at h terms.now wire.now m) × KeptBy h terms.now known.new }
 {
@@ -49,19 +46,24 @@ pub fn not_ahead(h: Realm, ta: u32) -> bool
     (ta as u64) <= (h.clock as u64) + (h.la as u64)
 }
 
-// 0 where the times and the replay cache let a delivery pass, else the number of the refusal.
-pub fn admit(h: Realm, cache: [Entry; 16], ts: u32, e: Entry) -> u8
+// Whether the times and the replay cache let a delivery pass. Refused: 16 to 19 and 22.
+#[tactic(auto, unfolding(crate::specs::Conditions::admission))]
+pub fn admit(h: Realm, cache: [Entry; 16], ts: u32, e: Entry) -> Result<(), Refusal>
     requires { h.entries ≤ 16 }
-    ensures { result ≡ admission h cache ts e }
+    ensures { number_of result ≡ admission h cache ts e }
 {
     if !ticket_lives(h, ts) {
-        return REFUSE_TICKET;
+        return Err(Refusal::Ticket);
     }
     if !authenticator_lives(h, e.ta) {
-        return REFUSE_AUTHENTICATOR;
+        return Err(Refusal::Authenticator);
     }
     if !not_ahead(h, e.ta) {
-        return REFUSE_AHEAD;
+        return Err(Refusal::Ahead);
     }
-    refusal(cache, h.entries, e)
+    let cache = Cache {
+        places: cache,
+        count: h.entries,
+    };
+    cache.check(e)
 }

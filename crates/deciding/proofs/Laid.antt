@@ -1,6 +1,6 @@
 -- What is laid out is what is sent: the messages at the roots of an effect's draft are its messages.
 -- Assumes nothing.
-use Rattle.std.specs.Prelude.{cond, ℕ, List, [], ◌∷◌, ◌≡◌, refl, eqb}
+use Rattle.std.specs.Prelude.{cond, ℕ, List, [], ◌∷◌, Option, Some, None, ◌≡◌, refl, eqb}
 use Rattle.std.proofs.Common.{ap, ap₂}
 use Rattle.terms.specs.Meaning.{message_at}
 use Rattle.terms.specs.Message.{Message}
@@ -13,7 +13,6 @@ use Rattle.decisions.specs.declared.Sends.TheVariants.{Request, Issue, Presented
 use Rattle.decisions.specs.declared.Sends.TheVariants as sending
 use Rattle.decisions.specs.Effects.{messages_of}
 use Rattle.deciding.specs.declared.plan.Roots.{Roots}
-use Rattle.deciding.specs.declared.plan.Roots.TheVariants.{At, Nothing}
 use Rattle.deciding.specs.Layout.{roots_of, draft_of}
 
 module _ (terms : List ℕ) where
@@ -21,11 +20,11 @@ module _ (terms : List ℕ) where
   stored = message_at terms
 
   -- the messages at the roots of a draft, one where a node is named twice
-  abbrev pub root_messages : List Node → Roots → List Message
-  root_messages draft (At first last) =
+  abbrev pub root_messages : List Node → Option Roots → List Message
+  root_messages draft (Some r) =
       let m = draft_message stored draft in
-      cond (eqb first last) (m first ∷ []) (m first ∷ m last ∷ [])
-  root_messages draft Nothing = []
+      cond (eqb r.first r.last) (m r.first ∷ []) (m r.first ∷ m r.last ∷ [])
+  root_messages draft None = []
 
   one : {x y : Message} → x ≡ y → ◌≡◌ {A = List Message} (x ∷ []) (y ∷ [])
   one = ap (λ (m : Message). m ∷ [])

@@ -1,6 +1,6 @@
 -- How the messages of an effect are laid out, and what planning them asks for.
 -- Assumes nothing.
-use Rattle.std.specs.Prelude.{ℕ, ◌≤◌, List, []}
+use Rattle.std.specs.Prelude.{ℕ, ◌≤◌, List, [], Option, Some, None}
 use Rattle.drafts.specs.declared.Node.{Node}
 use Rattle.terms.specs.Valid.{Valid}
 use Rattle.sending.specs.Send.{AllWrites}
@@ -14,30 +14,27 @@ use Rattle.decisions.specs.Laws.Fits.{Carries}
 use Rattle.exchange.specs.declared.form.Form.{Form}
 use Rattle.exchange.specs.declared.form.Form.TheVariants.{Parallel, Kerberos5, Kerberos4}
 use Rattle.deciding.specs.declared.plan.Roots.{Roots}
-use Rattle.deciding.specs.declared.plan.Roots.TheVariants.{At, Nothing}
 
 -- ---- how messages are laid out
 
--- step 3: "sends {K, b, Ts, N} under a's key, then {K, a, Ts} under b's key", or one message
-abbrev pub issue_roots : Form → Roots
-issue_roots Parallel = At REPLY_ROOT TICKET_ROOT
-issue_roots Kerberos5 = At BESIDE_ROOT BESIDE_ROOT
-issue_roots Kerberos4 = At INSIDE_ROOT INSIDE_ROOT
-
--- step 4: "sends {a, Ta}K", or "the pair of X and {a, Ta}K"
-abbrev pub presented_roots : Form → Roots
-presented_roots Parallel = At AUTHENTICATOR_ROOT AUTHENTICATOR_ROOT
-presented_roots Kerberos5 = At PRESENTED_ROOT PRESENTED_ROOT
-presented_roots Kerberos4 = At PRESENTED_ROOT PRESENTED_ROOT
+-- one message is sent by naming its node twice
+abbrev pub one : ℕ → Option Roots
+one root = Some (record { first = root; last = root })
 
 -- the nodes of the first and the last message
-abbrev pub roots_of : Sends → Roots
-roots_of sending.Nothing = Nothing
-roots_of (Request a b n) = At REQUEST_ROOT REQUEST_ROOT
-roots_of (Issue f k a b ts n) = issue_roots f
-roots_of (Presented f a ta k x) = presented_roots f
-roots_of (Confirmation ta k) = At CONFIRMATION_ROOT CONFIRMATION_ROOT
-roots_of (Key k) = At KEY_ROOT KEY_ROOT
+abbrev pub roots_of : Sends → Option Roots
+roots_of sending.Nothing = None
+roots_of (Request a b n) = one REQUEST_ROOT
+-- step 3: "sends {K, b, Ts, N} under a's key, then {K, a, Ts} under b's key", or one message
+roots_of (Issue Parallel k a b ts n) = Some (record { first = REPLY_ROOT; last = TICKET_ROOT })
+roots_of (Issue Kerberos5 k a b ts n) = one BESIDE_ROOT
+roots_of (Issue Kerberos4 k a b ts n) = one INSIDE_ROOT
+-- step 4: "sends {a, Ta}K", or "the pair of X and {a, Ta}K"
+roots_of (Presented Parallel a ta k x) = one AUTHENTICATOR_ROOT
+roots_of (Presented Kerberos5 a ta k x) = one PRESENTED_ROOT
+roots_of (Presented Kerberos4 a ta k x) = one PRESENTED_ROOT
+roots_of (Confirmation ta k) = one CONFIRMATION_ROOT
+roots_of (Key k) = one KEY_ROOT
 
 abbrev pub issue_draft_of : Form → (k a b ts n : ℕ) → List Node
 issue_draft_of Parallel k a b ts n = issue_draft k a b ts n

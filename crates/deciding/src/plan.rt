@@ -2,7 +2,7 @@
 ghost use Rattle.std.specs.Prelude.{◌≡◌, length};
 ghost use Rattle.sending.specs.Send.{PlanFor};
 ghost use Rattle.decisions.specs.Effects.{messages_of};
-ghost use Rattle.deciding.specs.Layout.{issue_roots, presented_roots, roots_of, issue_draft_of, draft_of, CanSend};
+ghost use Rattle.deciding.specs.Layout.{one, roots_of, issue_draft_of, draft_of, CanSend};
 
 use decisions::Sends;
 use drafts::{NODES, Node};
@@ -12,74 +12,45 @@ use layouts::{
     REPLY_ROOT, REQUEST_ROOT, TICKET_ROOT, lay_confirmation, lay_inside_issue, lay_issue, lay_key,
     lay_presented, lay_request,
 };
-use sending::{Marks, Prepared, plan_messages};
+use sending::{Prepared, plan_messages};
 
-// Where the messages stand in their draft; where there is one message its node is named twice.
+// The nodes of the first and the last message in their draft; where there is one message its node is named twice.
 #[derive(Clone, Copy)]
-pub enum Roots {
-    At { first: usize, last: usize },
-    Nothing,
+pub struct Roots {
+    pub first: usize,
+    pub last: usize,
 }
 
-// Step 3: two messages, or one that has both parts.
-fn issue_roots(form: Form) -> Roots
-    ensures { result ≡ issue_roots form }
+fn one(root: usize) -> Option<Roots>
+    ensures { result ≡ one root }
 {
-    match form {
-        Form::Parallel => Roots::At {
-            first: REPLY_ROOT,
-            last: TICKET_ROOT,
-        },
-        Form::Kerberos5 => Roots::At {
-            first: BESIDE_ROOT,
-            last: BESIDE_ROOT,
-        },
-        Form::Kerberos4 => Roots::At {
-            first: INSIDE_ROOT,
-            last: INSIDE_ROOT,
-        },
-    }
+    Some(Roots {
+        first: root,
+        last: root,
+    })
 }
 
-// Step 4: the authenticator, or the pair that it stands in.
-fn presented_roots(form: Form) -> Roots
-    ensures { result ≡ presented_roots form }
-{
-    match form {
-        Form::Parallel => Roots::At {
-            first: AUTHENTICATOR_ROOT,
-            last: AUTHENTICATOR_ROOT,
-        },
-        Form::Kerberos5 => Roots::At {
-            first: PRESENTED_ROOT,
-            last: PRESENTED_ROOT,
-        },
-        Form::Kerberos4 => Roots::At {
-            first: PRESENTED_ROOT,
-            last: PRESENTED_ROOT,
-        },
-    }
-}
-
-fn roots_of(sends: Sends) -> Roots
+// Step 3 sends two messages, or one that has both parts; step 4 the authenticator, or the pair that it stands in.
+fn roots_of(sends: Sends) -> Option<Roots>
     ensures { result ≡ roots_of sends }
 {
     match sends {
-        Sends::Nothing => Roots::Nothing,
-        Sends::Request { .. } => Roots::At {
-            first: REQUEST_ROOT,
-            last: REQUEST_ROOT,
+        Sends::Nothing => None,
+        Sends::Request { .. } => one(REQUEST_ROOT),
+        Sends::Issue { form, .. } => match form {
+            Form::Parallel => Some(Roots {
+                first: REPLY_ROOT,
+                last: TICKET_ROOT,
+            }),
+            Form::Kerberos5 => one(BESIDE_ROOT),
+            Form::Kerberos4 => one(INSIDE_ROOT),
         },
-        Sends::Issue { form, .. } => issue_roots(form),
-        Sends::Presented { form, .. } => presented_roots(form),
-        Sends::Confirmation { .. } => Roots::At {
-            first: CONFIRMATION_ROOT,
-            last: CONFIRMATION_ROOT,
+        Sends::Presented { form, .. } => match form {
+            Form::Parallel => one(AUTHENTICATOR_ROOT),
+            Form::Kerberos5 | Form::Kerberos4 => one(PRESENTED_ROOT),
         },
-        Sends::Key(_) => Roots::At {
-            first: KEY_ROOT,
-            last: KEY_ROOT,
-        },
+        Sends::Confirmation { .. } => one(CONFIRMATION_ROOT),
+        Sends::Key(_) => one(KEY_ROOT),
     }
 }
 
@@ -88,8 +59,7 @@ fn issue_draft(form: Form, k: u16, a: u16, b: u16, ts: u32, n: u16) -> [Node; 16
     ensures { result ≡ issue_draft_of form k a b ts n }
 {
     match form {
-        Form::Parallel => lay_issue(k, a, b, ts, n),
-        Form::Kerberos5 => lay_issue(k, a, b, ts, n),
+        Form::Parallel | Form::Kerberos5 => lay_issue(k, a, b, ts, n),
         Form::Kerberos4 => lay_inside_issue(k, a, b, ts, n),
     }
 }
@@ -121,13 +91,13 @@ pub fn plan_sends(terms: &[u64], count: usize, sends: Sends, words: &mut [u64]) 
     ensures { PlanFor terms.now count (messages_of terms.now sends) words.new result }
 {
     match roots_of(sends) {
-        Roots::At { first, last } => {
+        Some(roots) => {
             let draft = draft_of(sends);
-            plan_messages(terms, count, draft, first, last, words)
+            plan_messages(terms, count, draft, roots.first, roots.last, words)
         }
-        Roots::Nothing => Prepared {
+        None => Prepared {
             count: 0,
-            marks: Marks::Nothing,
+            marks: None,
         },
     }
 }

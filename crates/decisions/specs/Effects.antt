@@ -1,7 +1,7 @@
 -- What the step table says of each step (document 01, "Steps"), as effects: a row, the cache, the messages sent, the clock, and the
 -- run that the answer names. One definition for each row of the table.
 -- Assumes nothing.
-use Rattle.std.specs.Prelude.{ℕ, List, [], ◌∷◌}
+use Rattle.std.specs.Prelude.{ℕ, List, [], ◌∷◌, Option, Some, None}
 use Rattle.terms.specs.Meaning.{message_at}
 use Rattle.terms.specs.Message.{session, Message, key}
 use Rattle.exchange.specs.declared.run.Role.{Role}
@@ -16,8 +16,6 @@ use Rattle.decisions.specs.declared.Keeping.TheVariants.{Same, Remember, Forget}
 use Rattle.decisions.specs.declared.Sends.{Sends}
 use Rattle.decisions.specs.declared.Sends.TheVariants.{Request, Issue, Presented, Confirmation, Key}
 use Rattle.decisions.specs.declared.Sends.TheVariants as sending
-use Rattle.exchange.specs.declared.call.Names.{Names}
-use Rattle.exchange.specs.declared.call.Names.TheVariants.{Run, Nobody}
 use Rattle.decisions.specs.declared.Effect.{Effect}
 
 -- the messages, in the order of sending; a term that is passed on is one of the table's
@@ -39,7 +37,7 @@ module _ (clock : ℕ) where
         keeping = Same;
         sends = x;
         clock = clock;
-        names = Run r;
+        names = Some r;
       }
 
   abbrev pub advancing : Role → Stage → (r a b k ts ta : ℕ) → Keeping → Sends → Effect
@@ -49,10 +47,10 @@ module _ (clock : ℕ) where
         keeping = c;
         sends = x;
         clock = clock;
-        names = Run r;
+        names = Some r;
       }
 
-  abbrev pub still : Keeping → Sends → Names → Effect
+  abbrev pub still : Keeping → Sends → Option ℕ → Effect
   still c x who = record { change = changes.Nothing; keeping = c; sends = x; clock = clock; names = who }
 
   -- ---- the steps
@@ -84,12 +82,12 @@ module _ (clock : ℕ) where
 
   -- "10 | changes nothing"; "7 | clock becomes t" is the same with that clock
   abbrev pub nothing : Effect
-  nothing = still Same sending.Nothing Nobody
+  nothing = still Same sending.Nothing None
 
   -- "8 | forgets b's entries whose Ta + La is at or below the clock"
   abbrev pub forgetting : ℕ → Effect
-  forgetting b = still (Forget b) sending.Nothing Nobody
+  forgetting b = still (Forget b) sending.Nothing None
 
   -- "9 | leaks a server run's key onto the wire"
   abbrev pub leaking : ℕ → Effect
-  leaking r = still Same (Key r) (Run r)
+  leaking r = still Same (Key r) (Some r)

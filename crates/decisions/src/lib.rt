@@ -1,8 +1,7 @@
-// What a step comes to, by value: what the tables do, or the number of the refusal. A decision is made where its values are known
-// and carries all that is written, so whoever writes it goes through no steps.
+// What a step that is taken does, by value. An effect is made where its values are known and carries all that is written, so whoever
+// writes it goes through no steps.
 #![tactic(auto)]
 
-use exchange::call::Names;
 use exchange::form::Form;
 use exchange::run::Row;
 use replay::entry::Entry;
@@ -61,11 +60,5 @@ pub struct Effect {
     pub keeping: Keeping,
     pub sends: Sends,
     pub clock: u32,
-    pub names: Names,
-}
-
-#[derive(Clone, Copy)]
-pub enum Verdict {
-    Takes(Effect),
-    Refused(u8),
+    pub names: Option<u8>,
 }

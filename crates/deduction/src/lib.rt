@@ -22,13 +22,9 @@ pub fn is_public(flags: u32, t: Term) -> bool
     ensures { result ≡ public_of flags t }
 {
     match t {
-        Term::Principal(_) => true,
-        Term::Time(_) => true,
-        Term::Nonce(i) => FIRST_OWN <= i,
+        Term::Principal(_) | Term::Time(_) => true,
+        Term::Nonce(i) | Term::SessionKey(i) => FIRST_OWN <= i,
         Term::LongTermKey(p) => flagged(flags, p),
-        Term::SessionKey(i) => FIRST_OWN <= i,
-        Term::Pair(_, _) => false,
-        Term::Encrypted(_, _) => false,
-        Term::Unknown => false,
+        _ => false,
     }
 }

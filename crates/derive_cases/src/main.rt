@@ -10,104 +10,69 @@
 //   Q  a term's number: can the intruder derive it?
 #![tactic(auto)]
 
-use cases::{Line, least, print_number, print_text, word};
+use cases::{LINES, Line, print_derivable, word};
 use deduction::Principals;
-use synthesis::lent::{Answer, can_derive};
+use synthesis::lent::can_derive;
 
-// Lines at most.
-const LINES: usize = 65536;
-
-// How many terms there are, and how many places and words are lent.
+// The tables, each with a place more than it should have.
 #[derive(Clone, Copy)]
-struct Lent {
+struct Tables {
+    terms: [u64; 513],
+    wire: [u64; 9],
+    // how many terms there are
     count: usize,
+    // how many places and words are lent
     places: usize,
     words: usize,
 }
 
-fn report(answer: Answer) {
-    match answer {
-        Answer::Derivable => {
-            io::write_all(1, b": derivable\n");
-        }
-        Answer::Underivable => {
-            io::write_all(1, b": not derivable\n");
-        }
-        Answer::Refused(number) => {
-            print_number(b": refused ", number as u64);
-            io::write_all(1, b"\n");
+impl Tables {
+    fn new() -> Tables {
+        Tables {
+            terms: [0; 513],
+            wire: [0; 9],
+            count: 0,
+            places: 0,
+            words: 0,
         }
     }
-}
 
-fn ask(terms: &[u64], places: usize, count: usize, wire: &[u64], words: usize, t: usize) {
-    let p = least(places, terms.len());
-    let w = least(words, wire.len());
-    let realm = Principals { n: 3, flags: 4 };
-    report(can_derive(&terms[..p], count, realm, &wire[..w], t));
-}
-
-fn put(places: &mut [u64], at: usize, value: u64) {
-    if at < places.len() {
-        places[at] = value;
+    fn ask(&self, t: usize) {
+        let terms = &self.terms[..self.places.min(513)];
+        let wire = &self.wire[..self.words.min(9)];
+        let realm = Principals { n: 3, flags: 4 };
+        print_derivable(can_derive(terms, self.count, realm, wire, t));
     }
-}
 
-// Does what a line says.
-fn obey(terms: &mut [u64], wire: &mut [u64], lent: Lent, line: Line) -> Lent {
-    let letter = line.letter;
-    match letter {
-        b'L' => {
-            let bytes = line.bytes;
-            print_text(bytes);
-        }
-        b'C' => {
-            return Lent {
-                count: line.a as usize,
-                places: line.b as usize,
-                words: line.c as usize,
-            };
-        }
-        b'T' => {
-            put(terms, line.a as usize, word(line.b, line.c, line.d));
-        }
-        b'W' => {
-            put(
-                wire,
-                line.a as usize,
-                (line.b as u64) * 4294967296 + (line.c as u64),
-            );
-        }
-        _ => {
-            ask(
-                terms,
-                lent.places,
-                lent.count,
-                wire,
-                lent.words,
-                line.a as usize,
-            );
+    // Does what a line says.
+    fn obey(&mut self, line: Line) {
+        let [a, b, c, d, ..] = line.numbers;
+        match line.letter {
+            b'L' => line.print_text(),
+            b'C' => {
+                self.count = a as usize;
+                self.places = b as usize;
+                self.words = c as usize;
+            }
+            b'T' => {
+                if let Some(place) = self.terms.get_mut(a as usize) {
+                    *place = word(b, c, d);
+                }
+            }
+            b'W' => {
+                if let Some(place) = self.wire.get_mut(a as usize) {
+                    *place = u64::from(b) * 4294967296 + u64::from(c);
+                }
+            }
+            _ => self.ask(a as usize),
         }
     }
-    lent
 }
 
 fn main() {
-    let mut terms = [0u64; 513];
-    let mut wire = [0u64; 9];
-    let mut lent = Lent {
-        count: 0,
-        places: 0,
-        words: 0,
-    };
-    let mut i: usize = 0;
-    while i < LINES {
-        let line = cases::next();
-        if line.letter == 0 {
-            break;
-        }
-        let after = obey(&mut terms, &mut wire, lent, line);
-        lent = after;
-        i += 1;
+    let mut tables = Tables::new();
+    for _ in 0..LINES {
+        let Some(line) = cases::next() else { break };
+        tables.obey(line);
     }
 }

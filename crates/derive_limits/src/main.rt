@@ -2,116 +2,72 @@
 // term with itself nested up to the last place. One line for each question, with the answer.
 #![tactic(auto)]
 
+ghost use Rattle.std.specs.Prelude.{◌≤◌};
+
+use cases::{print_derivable, print_number};
 use deduction::Principals;
 use lent_terms::add_term;
-use marks::with;
-use synthesis::lent::{Answer, can_derive};
-use terms::table::Added;
-use words::{Term, encode};
+use marks::{mark, with};
+use synthesis::lent::can_derive;
+use terms::table::{Added, MAX_TERMS};
+use words::Term;
 
-// The largest realm, all of whose principals are good.
-fn realm() -> Principals {
-    Principals { n: 32, flags: 0 }
-}
-
-fn report(question: &[u8], answer: Answer) {
-    io::write_all(1, question);
-    match answer {
-        Answer::Derivable => {
-            io::write_all(1, b": derivable\n");
-        }
-        Answer::Underivable => {
-            io::write_all(1, b": not derivable\n");
-        }
-        Answer::Refused(number) => {
-            io::write_all(1, b": refused ");
-            io::print_decimal(1, number as u64);
-            io::write_all(1, b"\n");
-        }
-    }
-}
+// Principals of the largest realm, all of which are good.
+const PRINCIPALS: u16 = 32;
 
 fn ask(question: &[u8], terms: &[u64], count: usize, wire: [u64; 8], t: usize) {
-    report(question, can_derive(terms, count, realm(), &wire, t));
+    let realm = Principals {
+        n: PRINCIPALS,
+        flags: 0,
+    };
+    io::write_all(1, question);
+    print_derivable(can_derive(terms, count, realm, &wire, t));
 }
 
 fn report_count(subject: &[u8], count: usize) {
     io::write_all(1, subject);
-    io::write_all(1, b": ");
-    io::print_decimal(1, count as u64);
+    print_number(b": ", count as u64);
     io::write_all(1, b" terms\n");
-}
-
-fn next(count: usize) -> usize {
-    if count < 512 { count + 1 } else { count }
 }
 
 // The count after one more term was added.
 fn add(terms: &mut [u64], count: usize, term: Term) -> usize {
-    match add_term(terms, count, 32, encode(term)) {
-        Added::Old(_) => count,
-        Added::New(i) => next(i),
-        Added::Refused(_) => {
+    match add_term(terms, count, PRINCIPALS, u64::from(term)) {
+        Ok(Added::Old(_)) => count,
+        Ok(Added::New(i)) => i.min(MAX_TERMS - 1) + 1,
+        Err(_) => {
             io::write_all(1, b"a term was refused\n");
             count
         }
     }
 }
 
-// Session keys 0 to 63: the others are the intruder's own.
-fn add_session_keys(terms: &mut [u64], start: usize) -> usize {
-    let mut count = start;
-    let mut i: u16 = 0;
-    while i < 64 {
-        count = add(terms, count, Term::SessionKey(i));
-        i += 1;
-    }
-    count
-}
-
-// The keys of the principals, 0 to 31.
-fn add_long_term_keys(terms: &mut [u64], start: usize) -> usize {
-    let mut count = start;
-    let mut p: u16 = 0;
-    while p < 32 {
-        count = add(terms, count, Term::LongTermKey(p));
-        p += 1;
-    }
-    count
-}
-
-// Each of the keys, which are terms 1 to 96, under the one that follows it, the last first.
-fn add_links(terms: &mut [u64], start: usize) -> usize {
-    let mut count = start;
-    let mut j: u16 = 95;
-    while 0 < j {
-        count = add(terms, count, Term::Encrypted(j, j + 1));
-        j -= 1;
-    }
-    count
-}
-
 // The intruder's own session key 64 is term 0, session key i is term i + 1, and the key of principal p is term p + 65. Term 96
 // under term 0 is term 97, and term j under term j + 1 is term 193 - j. Each link that is opened gives the key to the one right
 // behind it, so that a sweep from the last term to the first opens only one.
 fn add_chain(terms: &mut [u64]) -> usize {
-    let c1 = add(terms, 0, Term::SessionKey(64));
-    let c2 = add_session_keys(terms, c1);
-    let c3 = add_long_term_keys(terms, c2);
-    let c4 = add(terms, c3, Term::Encrypted(96, 0));
-    add_links(terms, c4)
+    let mut count = add(terms, 0, Term::SessionKey(64));
+    for i in 0..64 {
+        count = add(terms, count, Term::SessionKey(i));
+    }
+    for p in 0..PRINCIPALS {
+        count = add(terms, count, Term::LongTermKey(p));
+    }
+    count = add(terms, count, Term::Encrypted(96, 0));
+    for j in (1..96).rev() {
+        count = add(terms, count, Term::Encrypted(j, j + 1));
+    }
+    count
 }
 
 // The set with all numbers from `first` up to and without `end`.
-fn with_range(set: [u64; 8], first: usize, end: usize) -> [u64; 8] {
-    let mut s = set;
-    let mut i = first;
-    while i < end {
-        let more = with(s, i);
-        s = more;
-        i += 1;
+fn with_range(mut set: [u64; 8], first: usize, end: usize) -> [u64; 8]
+    requires { end ≤ 512 }
+{
+    for i in first..end {
+        mark(&mut set, i);
     }
-    s
+    set
 }
 
 // The whole chain is on the wire.
@@ -152,10 +108,8 @@ fn chain(terms: &mut [u64]) {
 // Term 0, and the pair of each term with itself, up to the last place.
 fn add_nest(terms: &mut [u64], innermost: Term) -> usize {
     let mut count = add(terms, 0, innermost);
-    let mut i: u16 = 0;
-    while i < 511 {
+    for i in 0..511 {
         count = add(terms, count, Term::Pair(i, i));
-        i += 1;
     }
     count
 }

@@ -6,15 +6,15 @@ ghost use Rattle.std.specs.Prelude.{◌≡◌};
 ghost use Rattle.drafts.specs.Draft.{key_fits, node_fits, draft_fits, word_of_key, layer_of};
 
 use terms::rules::LAST_NUMBER;
-use words::{Term, encode};
+use words::Term;
 
-#[derive(Clone, Copy)]
+#[derive(Clone, Copy, Debug, PartialEq, Eq)]
 pub enum DraftKey {
     LongTerm(u16),
     Session(u16),
 }
 
-#[derive(Clone, Copy)]
+#[derive(Clone, Copy, Debug, PartialEq, Eq)]
 pub enum Node {
     Principal(u16),
     Time(u32),
@@ -51,8 +51,8 @@ fn node_fits(node: Node, n: u16, count: usize, k: usize) -> bool
         Node::Time(t) => t <= LAST_TIME,
         Node::Nonce(i) => i <= LAST_NUMBER,
         Node::Key(key) => key_fits(key, n),
-        Node::Pair(l, r) => { if l < k { r < k } else { false } }
-        Node::Encrypted(body, key) => { if body < k { key_fits(key, n) } else { false } }
+        Node::Pair(l, r) => l < k && r < k,
+        Node::Encrypted(body, key) => body < k && key_fits(key, n),
         Node::Stored(i) => (i as usize) < count,
     }
 }
@@ -61,20 +61,12 @@ fn node_fits(node: Node, n: u16, count: usize, k: usize) -> bool
 pub fn draft_fits(draft: [Node; 16], n: u16, count: usize) -> bool
     ensures { result ≡ draft_fits n count draft }
 {
-    let mut k: usize = 0;
-    while k < NODES {
-        let node = draft[k];
-        if !node_fits(node, n, count, k) {
-            return false;
-        }
-        k += 1;
-    }
-    true
+    (0..NODES).all(|k| node_fits(draft[k], n, count, k))
 }
 
 // A node as adding needs it: a term's number, the word of a term without operands, or the operands. The key of an
 // encryption has none of its own, so its word is known.
-#[derive(Clone, Copy)]
+#[derive(Clone, Copy, Debug, PartialEq, Eq)]
 pub enum Layer {
     Stored(u16),
     Atom(u64),
@@ -87,8 +79,8 @@ fn key_word(key: DraftKey) -> u64
     ensures { result ≡ word_of_key key }
 {
     match key {
-        DraftKey::LongTerm(p) => encode(Term::LongTermKey(p)),
-        DraftKey::Session(i) => encode(Term::SessionKey(i)),
+        DraftKey::LongTerm(p) => u64::from(Term::LongTermKey(p)),
+        DraftKey::Session(i) => u64::from(Term::SessionKey(i)),
     }
 }
 
@@ -96,9 +88,9 @@ pub fn layer_of(node: Node) -> Layer
     ensures { result ≡ layer_of node }
 {
     match node {
-        Node::Principal(p) => Layer::Atom(encode(Term::Principal(p))),
-        Node::Time(t) => Layer::Atom(encode(Term::Time(t))),
-        Node::Nonce(i) => Layer::Atom(encode(Term::Nonce(i))),
+        Node::Principal(p) => Layer::Atom(u64::from(Term::Principal(p))),
+        Node::Time(t) => Layer::Atom(u64::from(Term::Time(t))),
+        Node::Nonce(i) => Layer::Atom(u64::from(Term::Nonce(i))),
         Node::Key(key) => Layer::Atom(key_word(key)),
         Node::Pair(l, r) => Layer::Pair(l, r),
         Node::Encrypted(body, key) => Layer::Encrypted(body, key_word(key)),

@@ -1,7 +1,7 @@
 -- "every step that adds terms must know how many it added", and so does TM: an answer tells how many terms the table has more.
 -- Assumes nothing.
 use Prim.Native.Nat.{ℕ, ◌+◌, ◌-◌}
-use Rattle.std.specs.Prelude.{◌≡◌}
+use Rattle.std.specs.Prelude.{◌≡◌, Ok, Err}
 use mathlib.Core.List.{List}
 use native.Mathlib.Omega.{arith}
 use Rattle.words.specs.Word.{packed}
@@ -15,9 +15,7 @@ use Rattle.exchange.specs.declared.call.Call.{Call}
 use Rattle.exchange.specs.declared.call.Call.TheVariants as calls
 use Rattle.exchange.specs.Calls.{added_by}
 use Rattle.realm.specs.Tables.{Tables, Together}
-use Rattle.decisions.specs.declared.Verdict.{Verdict}
-use Rattle.decisions.specs.declared.Verdict.TheVariants.{Takes, Refused}
-use Rattle.decisions.specs.Decision.{decision}
+use Rattle.decisions.specs.Decision.{decision, Verdict}
 use Rattle.decisions.specs.Effects.{messages_of}
 use Rattle.effects.specs.Apply.{applied}
 use Rattle.effects.specs.Call.{numbered, by_verdict, stepped, called}
@@ -36,10 +34,10 @@ term_counted n ts count w =
 module _ (t : Tables) (w : Together t) where
   by_verdict_lem : (v : Verdict) → (by_verdict t v).tables.realm.terms ≡ t.realm.terms + added_by (by_verdict t v).answer
   unfolding applied
-  by_verdict_lem (Takes x) =
+  by_verdict_lem (Ok x) =
       let xs : List ℕ = terms_of t.terms t.realm.terms in
       omega (arith, (longer_all xs (messages_of t.terms x.sends)).more, terms_length w.terms_hold)
-  by_verdict_lem (Refused k) = omega arith
+  by_verdict_lem (Err k) = omega arith
 
   pub added_counted : (c : Call) → (called t c).tables.realm.terms ≡ t.realm.terms + added_by (called t c).answer
   unfolding called stepped

@@ -1,6 +1,6 @@
 -- No call answers 10: that number is the check's alone, which a library caller meets whose tables do not hold together.
 -- Assumes nothing.
-use Rattle.std.specs.Prelude.{ℕ, zero, suc, Bool, true, false, not, ◌&&◌, cond, List, [], ◌∷◌, ◌≡◌, refl, ltb, eqb}
+use Rattle.std.specs.Prelude.{ℕ, zero, suc, Bool, true, false, not, ◌&&◌, cond, List, [], ◌∷◌, ◌≡◌, refl, ltb, eqb, Err}
 use Rattle.std.proofs.Math.Bool.{and-eq-true_iff}
 use Rattle.std.proofs.lemmas.Bool.{eqb-false}
 use Rattle.std.proofs.Common.{eq-eqb}
@@ -10,7 +10,6 @@ use Rattle.terms.proofs.Choice.{no_true}
 use Rattle.terms.specs.Outcome as terms
 use Rattle.terms.specs.Rules.{spare, fields_ok, refusal_of}
 use Rattle.words.specs.Word.{kind_of, right_of, term_of, packed}
-use Rattle.exchange.specs.declared.call.Answer.TheVariants.{Refused}
 use Rattle.exchange.specs.declared.call.Call.{Call}
 use Rattle.exchange.specs.declared.call.Call.TheVariants as calls
 use Rattle.traces.specs.Lists.{◌∈◌, here, there}
@@ -19,7 +18,7 @@ use Rattle.realm.specs.Tables.{Tables}
 use Rattle.decisions.proofs.Promises.{step_refusals}
 use Rattle.decisions.specs.Refusals.{all_of}
 use Rattle.effects.specs.Call.{numbered, called}
-use Rattle.effects.proofs.Kept.{never, number_accepts, step_refused}
+use Rattle.effects.proofs.Kept.{never, same_refusal, number_accepts, step_refused}
 
 -- ---- TM
 
@@ -28,12 +27,9 @@ abbrev ten : terms.TermAnswer → Bool
 ten (terms.number i) = false
 ten (terms.refused k) = eqb k 10
 
-same : {k : ℕ} → Refused k ≡ Refused 10 → k ≡ 10
-same e = cc
-
-told : (a : terms.TermAnswer) (grown : ℕ) → ten a ≡ false → ¬ (numbered a grown ≡ Refused 10)
+told : (a : terms.TermAnswer) (grown : ℕ) → ten a ≡ false → ¬ (numbered a grown ≡ Err 10)
 told (terms.number i) grown e q = never (numbered (terms.number i) grown) (number_accepts i grown) q
-told (terms.refused k) grown e q = eqb-false k 10 e (same q)
+told (terms.refused k) grown e q = eqb-false k 10 e (same_refusal q)
 
 -- 4, 5 or 6
 of_word : (n : ℕ) (ts : List ℕ) (at w : ℕ) → eqb (refusal_of n ts at w) 10 ≡ false
@@ -76,7 +72,7 @@ no_ten (suc (suc (suc (suc (suc (suc (suc (suc (suc zero))))))))) = refl
 no_ten (suc (suc (suc (suc (suc (suc (suc (suc (suc (suc zero)))))))))) = refl
 no_ten (suc (suc (suc (suc (suc (suc (suc (suc (suc (suc (suc step))))))))))) = refl
 
-pub never_10 : (t : Tables) (c : Call) → ¬ ((called t c).answer ≡ Refused 10)
+pub never_10 : (t : Tables) (c : Call) → ¬ ((called t c).answer ≡ Err 10)
 unfolding called
 never_10 t (calls.Term kind l r) q = told (add_of t.realm.n t.terms t.realm.terms (packed kind l r)).answer _ (of_term t.realm.n t.terms t.realm.terms (packed kind l r)) q
 never_10 t (calls.Step step run a b m time) q =

@@ -1,6 +1,6 @@
 -- A call adds terms behind those that are there, and changes none of these.
 -- Assumes nothing.
-use Rattle.std.specs.Prelude.{ℕ, ◌≤◌, ◌≡◌, List, length, drop}
+use Rattle.std.specs.Prelude.{ℕ, ◌≤◌, ◌≡◌, List, length, drop, Ok, Err}
 use Rattle.std.proofs.Math.Path.{refl, sym}
 use Rattle.std.proofs.Common.{◌∙◌, arith, get_or-set_other}
 use Rattle.std.proofs.Math.ListN.{get_or-append}
@@ -17,9 +17,7 @@ use Rattle.exchange.specs.declared.call.Call.{Call}
 use Rattle.exchange.specs.declared.call.Call.TheVariants as calls
 use Rattle.realm.specs.declared.input.Step.{Step}
 use Rattle.realm.specs.Tables.{Tables, Together}
-use Rattle.decisions.specs.declared.Verdict.{Verdict}
-use Rattle.decisions.specs.declared.Verdict.TheVariants.{Takes, Refused}
-use Rattle.decisions.specs.Decision.{decision}
+use Rattle.decisions.specs.Decision.{decision, Verdict}
 use Rattle.decisions.specs.Effects.{messages_of}
 use Rattle.effects.specs.Apply.{applied}
 use Rattle.effects.specs.Call.{by_verdict, stepped, called}
@@ -44,8 +42,8 @@ term_older n ts count w =
 module _ (t : Tables) (w : Together t) where
   by_verdict_lem : (v : Verdict) → Older t (by_verdict t v).tables
   unfolding applied
-  by_verdict_lem (Refused k) = record { n = refl; flags = refl; more = omega arith; agree = λ k h. refl }
-  by_verdict_lem (Takes x) =
+  by_verdict_lem (Err k) = record { n = refl; flags = refl; more = omega arith; agree = λ k h. refl }
+  by_verdict_lem (Ok x) =
       let old = terms_of t.terms t.realm.terms in
       let xs = entered_all old (messages_of t.terms x.sends) in
       let longer = longer_all old (messages_of t.terms x.sends) in

@@ -2,12 +2,10 @@
 -- Apply, over Row and Cache; what can be refused is decided before. `Call` has a whole call: the engine's contracts are equations
 -- with it.
 -- Assumes nothing.
-use Rattle.std.specs.Prelude.{ℕ, ◌+◌, ◌↔◌, ◌≡◌, refl}
-use Rattle.exchange.specs.declared.call.Answer.TheVariants.{Refused}
+use Rattle.std.specs.Prelude.{ℕ, ◌+◌, ◌↔◌, ◌≡◌, refl, Err}
 use Rattle.exchange.specs.declared.call.Call.{Call}
 use Rattle.exchange.specs.Calls.{added_by}
 use Rattle.decisions.specs.declared.Effect.{Effect}
-use Rattle.decisions.specs.declared.Verdict.TheVariants as verdicts
 use Rattle.decisions.specs.Decision.{decision}
 use Rattle.realm.specs.declared.input.Step.{Step}
 use Rattle.realm.specs.Opening.{header}
@@ -28,15 +26,15 @@ unfolding applied
 header_stays t x = refl
 
 -- a call that is refused leaves the realm and every place of every table as they were
-pub refused_kept : (t : Tables) (c : Call) {k : ℕ} → (called t c).answer ≡ Refused k → (called t c).tables ≡ t
+pub refused_kept : (t : Tables) (c : Call) {k : ℕ} → (called t c).answer ≡ Err k → (called t c).tables ≡ t
 refused_kept t c e = kept.refused_kept t c e
 
 -- a step's refusal is the number that was decided, and the other way round
-pub step_refused : (t : Tables) (s : Step) {k : ℕ} → ((stepped t s).answer ≡ Refused k) ↔ (decision t s ≡ verdicts.Refused k)
+pub step_refused : (t : Tables) (s : Step) {k : ℕ} → ((stepped t s).answer ≡ Err k) ↔ (decision t s ≡ Err k)
 step_refused t s = kept.step_refused t s
 
 -- "10 is met only by a library caller": no call answers it, but for the check
-pub never_10 : (t : Tables) (c : Call) → ¬ ((called t c).answer ≡ Refused 10)
+pub never_10 : (t : Tables) (c : Call) → ¬ ((called t c).answer ≡ Err 10)
 never_10 t c e = numbers.never_10 t c e
 
 -- an answer tells how many terms the table has more: none where a term was present, one where it is new, and what a step added

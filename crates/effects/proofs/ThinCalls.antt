@@ -1,13 +1,12 @@
 -- Remember and forget are what the steps do: where step 5 or step 8 is accepted, the count and the places of the cache are those
 -- that the thin call leaves; where nothing but the cache bars step 5, its refusal is the thin call's.
 -- Assumes nothing.
-use Rattle.std.specs.Prelude.{ℕ, ◌<◌, ◌≡◌, true, ◌≢◌, eqb}
+use Rattle.std.specs.Prelude.{ℕ, ◌<◌, ◌≡◌, true, ◌≢◌, eqb, Ok, Err}
 use Rattle.std.proofs.Math.Path.{refl}
 use Rattle.std.proofs.Common.{sym, ap, ◌∙◌, arith, ne_eqb}
 use Rattle.terms.proofs.Choice.{no_true}
 use Rattle.terms.specs.Meaning.{message_at}
 use Rattle.terms.specs.Message.{pair}
-use Rattle.exchange.specs.declared.call.Answer.TheVariants as answers
 use Rattle.exchange.specs.declared.call.Call.{Call}
 use Rattle.exchange.specs.declared.call.Call.TheVariants as calls
 use Rattle.exchange.specs.Calls.{accepts}
@@ -22,9 +21,7 @@ use Rattle.realm.specs.declared.input.Step.{Step}
 use Rattle.realm.specs.Fields.{call_of}
 use Rattle.realm.specs.Tables.{Tables, Together}
 use Rattle.decisions.specs.declared.Effect.{Effect}
-use Rattle.decisions.specs.declared.Verdict.{Verdict}
-use Rattle.decisions.specs.declared.Verdict.TheVariants.{Takes, Refused}
-use Rattle.decisions.specs.Decision.{need, roomed, decision}
+use Rattle.decisions.specs.Decision.{need, roomed, decision, Verdict}
 use Rattle.decisions.specs.Laws.Took.{row_at, Meets, Brings, Timely, Took, TookAs, took5, took8}
 use Rattle.decisions.proofs.Laws.Verdict.{decision_takes}
 use Rattle.decisions.proofs.Promises.{taken_as, remembers, delivered}
@@ -65,8 +62,8 @@ module _ (t : Tables) (w : Together t) where
   by_effect : (s : Step) (o : CacheOutcome) (v : Verdict) → decision t s ≡ v → ((x : Effect) → TookAs t (call_of s) x → o ≡ leaves x)
       → accepts (by_verdict t v).answer ≡ true → o ≡ accepted (by_verdict t v).tables.realm.entries (by_verdict t v).tables.cache
   unfolding applied
-  by_effect s o (Takes x) d k q = k x (taken_as t s w (decision_takes t s d).0)
-  by_effect s o (Refused number) d k q = no_true q
+  by_effect s o (Ok x) d k q = k x (taken_as t s w (decision_takes t s d).0)
+  by_effect s o (Err number) d k q = no_true q
 
   module _ (r a b m now : ℕ) where
     abbrev fields : ℕ → Step
@@ -89,12 +86,12 @@ module _ (t : Tables) (w : Together t) where
   -- that `remember` of b, K and Ta answers, where it answers one
   pub step_5_refuses : (r m k ts ta : ℕ) → Meets t r Responder Opened → Brings t m (pair (ticket k (row_at t r).a ts (row_at t r).b) (authenticator (row_at t r).a ta k))
       → Timely t ts ta → let number = remembers t w (row_at t r).b k ta in
-      number ≢ 0 → (called t (calls.Step 5 r 0 0 m 0)).answer ≡ answers.Refused number
+      number ≢ 0 → (called t (calls.Step 5 r 0 0 m 0)).answer ≡ Err number
   unfolding called decision
   step_5_refuses r m k ts ta v d l n =
       let number = remembers t w (row_at t r).b k ta in
       let s : Step = record { step = 5; run = r; a = 0; b = 0; m = m; t = 0 } in
       (step_refused t s).1 (ap (roomed t) (delivered t w r m k ts ta v d l ∙ barred number _ n))
     where
-      barred : (number : ℕ) (v : Verdict) → number ≢ 0 → need (eqb number 0) number v ≡ Refused number
+      barred : (number : ℕ) (v : Verdict) → number ≢ 0 → need (eqb number 0) number v ≡ Err number
       barred number v n = rw (ne_eqb number 0 n)

@@ -1,11 +1,12 @@
 -- What a call comes to, and an effect written: the answer, and every table afterwards, place by place. Nothing is refused here.
 -- Assumes nothing.
-use Rattle.std.specs.Prelude.{ℕ, ◌-◌, List, length}
+use Rattle.std.specs.Prelude.{ℕ, ◌-◌, List, length, Ok, Err}
 use Rattle.terms.specs.Number.{terms_of}
 use Rattle.messages.specs.Lent.{over}
 use Rattle.sending.specs.Send.{entered_all, marked_all}
-use Rattle.exchange.specs.declared.call.Answer.{Answer}
-use Rattle.exchange.specs.declared.call.Answer.TheVariants.{Ok, Refused}
+use Rattle.exchange.specs.Calls.{Answer}
+use Rattle.exchange.specs.declared.call.Accepted.TheVariants.{Taken}
+use Rattle.refusals.specs.Numbers.{numbered}
 use Rattle.realm.specs.declared.header.Realm.{Realm}
 use Rattle.realm.specs.Tables.{Tables, tables}
 use Rattle.decisions.specs.declared.Effect.{Effect}
@@ -22,11 +23,11 @@ pub record Outcome : Type 0 where
 
 -- what the code gave back, beside the lent tables
 abbrev pub outcome : After → (terms runs wire : List ℕ) → Outcome
-outcome r ts rs ws = record { answer = r.answer; tables = tables r.realm ts rs ws r.cache }
+outcome r ts rs ws = record { answer = numbered r.answer; tables = tables r.realm ts rs ws r.cache }
 
 -- "A refusal is its number alone. State, wire, cache and terms stay unchanged."
 abbrev pub refuse : Tables → ℕ → Outcome
-refuse t number = record { answer = Refused number; tables = t }
+refuse t number = record { answer = Err number; tables = t }
 
 -- ---- an effect
 
@@ -40,7 +41,7 @@ applied_with t x count ts ws =
     let h = t.realm in
     let c = cache_of h t.cache x.keeping in
     record {
-      answer = Ok x.names (count - h.terms);
+      answer = Ok (Taken x.names (count - h.terms));
       tables = tables (realm_after h x.clock count (run_count h.runs x.change) c.count) ts (changed h.runs x.change t.runs) ws c.places;
     }
 

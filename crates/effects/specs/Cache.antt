@@ -2,8 +2,7 @@
 -- clock".
 -- Assumes nothing.
 use Rattle.std.specs.Prelude.{ℕ, ◌<◌, List}
-use Rattle.replay.specs.Cache.{appending, sweeping}
-use Rattle.replay.specs.declared.cache.Swept.{Swept}
+use Rattle.replay.specs.Cache.{Swept, appending, sweeping}
 use Rattle.replay.specs.declared.entry.Entry.{Entry}
 use Rattle.realm.specs.declared.header.Realm.{Realm}
 use Rattle.decisions.specs.declared.Keeping.{Keeping}

@@ -1,21 +1,19 @@
 -- What a call comes to (document 01): the answer, and every table afterwards, place by place. One definition for the adding of
 -- terms and for all steps; the code's promises are equations with it.
 -- Assumes nothing.
-use Rattle.std.specs.Prelude.{cond, ℕ, zero, suc, ◌-◌, List}
+use Rattle.std.specs.Prelude.{cond, ℕ, zero, suc, ◌-◌, List, Ok, Err}
 use Rattle.words.specs.Word.{packed}
 use Rattle.terms.specs.Add.{add_of}
 use Rattle.terms.specs.Outcome as terms
-use Rattle.exchange.specs.declared.call.Answer.{Answer}
-use Rattle.exchange.specs.declared.call.Answer.TheVariants as answers
+use Rattle.exchange.specs.Calls.{Answer}
+use Rattle.exchange.specs.declared.call.Accepted.TheVariants.{Old, New}
 use Rattle.exchange.specs.declared.call.Call.{Call}
 use Rattle.exchange.specs.declared.call.Call.TheVariants as calls
 use Rattle.realm.specs.declared.header.Realm.{Realm}
 use Rattle.realm.specs.declared.input.Step.{Step}
 use Rattle.realm.specs.Check.{together}
 use Rattle.realm.specs.Tables.{Tables, tables}
-use Rattle.decisions.specs.declared.Verdict.{Verdict}
-use Rattle.decisions.specs.declared.Verdict.TheVariants.{Takes, Refused}
-use Rattle.decisions.specs.Decision.{decision}
+use Rattle.decisions.specs.Decision.{decision, Verdict}
 use Rattle.effects.specs.Apply.{Outcome, refuse, applied}
 
 -- ---- TM
@@ -26,9 +24,9 @@ with_count h terms =
 
 -- "Adding a term must tell whether the term is new or was present": whether the table has grown
 abbrev pub numbered : terms.TermAnswer → (grown : ℕ) → Answer
-numbered (terms.number i) zero = answers.Old i
-numbered (terms.number i) (suc grown) = answers.New i
-numbered (terms.refused k) grown = answers.Refused k
+numbered (terms.number i) zero = Ok (Old i)
+numbered (terms.number i) (suc grown) = Ok (New i)
+numbered (terms.refused k) grown = Err k
 
 -- the answer, the realm and the table of terms after TM, which reads and writes nothing else
 pub record Adding : Type 0 where
@@ -46,8 +44,8 @@ with_adding t o = record { answer = o.answer; tables = tables o.realm o.table t.
 
 -- a step that is taken is written
 abbrev pub by_verdict : Tables → Verdict → Outcome
-by_verdict t (Refused number) = refuse t number
-by_verdict t (Takes x) = applied t x
+by_verdict t (Err number) = refuse t number
+by_verdict t (Ok x) = applied t x
 
 unfoldable pub stepped : Tables → Step → Outcome
 stepped t s = by_verdict t (decision t s)

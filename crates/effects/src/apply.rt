@@ -7,7 +7,7 @@ ghost use Rattle.effects.specs.Apply.{outcome, applied};
 use crate::cache::cache_after;
 use crate::row::write_row;
 use decisions::Effect;
-use exchange::call::Answer;
+use exchange::call::{Accepted, Answer};
 use realm::header::Realm;
 use replay::entry::Entry;
 use sending::{Prepared, write_messages};
@@ -34,31 +34,24 @@ pub fn apply(
     requires { Together (tables h terms.old runs.old wire.old cache) × Writable (tables h terms.old runs.old wire.old cache) effect words.now prepared }
     ensures { outcome result terms.new runs.new wire.new ≡ applied (tables h terms.old runs.old wire.old cache) effect }
 {
-    let change = effect.change;
-    let keeping = effect.keeping;
-    let names = effect.names;
     let added = prepared.count;
     let count = h.terms + added;
     write_messages(terms, wire, h.terms, words, prepared);
-    let opened = write_row(runs, h.runs, change);
-    let swept = cache_after(h, cache, keeping);
-    let places = swept.places;
+    let opened = write_row(runs, h.runs, effect.change);
+    let kept = cache_after(h, cache, effect.keeping);
+    let places = kept.places;
     After {
         realm: Realm {
-            n: h.n,
-            rules: h.rules,
-            flags: h.flags,
-            ls: h.ls,
-            la: h.la,
             clock: effect.clock,
             terms: count,
             runs: opened,
-            entries: swept.count,
+            entries: kept.count,
+            ..h
         },
         cache: places,
-        answer: Answer::Ok {
-            names,
+        answer: Ok(Accepted::Taken {
+            names: effect.names,
             added: added as u16,
-        },
+        }),
     }
 }

@@ -5,24 +5,23 @@ ghost use Rattle.effects.specs.Cache.{cache_of, EntryRoom};
 use decisions::Keeping;
 use lent_cache::pass::sweep;
 use realm::header::Realm;
-use replay::cache::{Swept, append};
+use replay::cache::Cache;
 use replay::entry::{Entry, Purge};
 
 // The cache after it.
-pub fn cache_after(h: Realm, cache: [Entry; 16], keeping: Keeping) -> Swept
+pub fn cache_after(h: Realm, places: [Entry; 16], keeping: Keeping) -> Cache
     requires { (h.entries ≤ 16) × EntryRoom h.entries keeping }
-    ensures { result ≡ cache_of h cache keeping }
+    ensures { result ≡ cache_of h places keeping }
 {
-    let count = h.entries;
+    let cache = Cache {
+        places,
+        count: h.entries,
+    };
     match keeping {
-        Keeping::Same => Swept {
-            places: cache,
-            count,
-        },
-        Keeping::Remember(entry) => append(cache, count, entry),
+        Keeping::Same => cache,
+        Keeping::Remember(entry) => cache.append(entry),
         Keeping::Forget(b) => sweep(
             cache,
-            count,
             Purge {
                 b,
                 clock: h.clock,

@@ -5,12 +5,13 @@ use Rattle.exchange.specs.declared.call.Call.{Call}
 use Rattle.realm.specs.declared.input.Step.{Step}
 use Rattle.realm.specs.Tables.{Tables, Together}
 use Rattle.synthesis.proofs.Promises as intruder
+use Rattle.synthesis.specs.declared.knowledge.Knowledge.{Knowledge}
 use Rattle.conditions.specs.Conditions.{KeptBy}
 use Rattle.effects.specs.Apply.{Outcome}
 use Rattle.effects.specs.Call.{stepped, called}
 use Rattle.effects.proofs.Older.{Older, stepped_older, called_older}
 
-module _ {t : Tables} (w : Together t) {ks : List ℕ} (known : KeptBy t.realm t.terms ks) where
+module _ {t : Tables} (w : Together t) {ks : Knowledge} (known : KeptBy t.realm t.terms ks) where
   kept_later : {t' : Tables} → Older t t' → KeptBy t'.realm t'.terms ks
   kept_later {t'} o = rw (o.n, o.flags) (intruder.kept_later w.terms_hold t'.terms t'.realm.terms o.agree o.more known)
 

@@ -1,14 +1,15 @@
 -- The ways out of a call, over plain variables: the code's proofs cite them.
 -- Assumes nothing.
-use Rattle.std.specs.Prelude.{ℕ, suc, ◌+◌, ◌<◌, ◌≡◌, refl, true, false, List}
+use Rattle.std.specs.Prelude.{ℕ, suc, ◌+◌, ◌<◌, ◌≡◌, refl, true, false, List, Result, Ok, Err}
 use Rattle.std.proofs.Common.{add-one, arith, ap, subst}
 use Rattle.std.proofs.Math.Path.{sym}
+use Rattle.refusals.specs.declared.Refusal.{Refusal}
 use Rattle.words.specs.Word.{packed}
 use Rattle.terms.specs.Add.{add_of, AddsTerm}
 use Rattle.terms.proofs.Add.{adds}
 use Rattle.terms.specs.Valid.{Valid}
 use Rattle.terms.specs.Outcome as terms
-use Rattle.exchange.specs.declared.call.Answer.TheVariants as answers
+use Rattle.exchange.specs.declared.call.Accepted.TheVariants.{Old, New}
 use Rattle.exchange.specs.declared.call.Call.{Call}
 use Rattle.exchange.specs.declared.call.Call.TheVariants as calls
 use Rattle.realm.specs.declared.header.Realm.{Realm}
@@ -16,10 +17,8 @@ use Rattle.realm.specs.declared.input.Step.{Step}
 use Rattle.realm.specs.Check.{together}
 use Rattle.realm.specs.Tables.{Tables}
 use Rattle.decisions.specs.declared.Effect.{Effect}
-use Rattle.decisions.specs.declared.Verdict.TheVariants.{Takes, Refused}
-use Rattle.decisions.specs.declared.Verdict.{Verdict}
 use Rattle.decisions.specs.Decision.{decision}
-use Rattle.sending.specs.declared.Prepared.{Prepared}
+use Rattle.deciding.specs.declared.decide.Decision.{Decision}
 use Rattle.deciding.specs.Decided.{Writable, WritableBy}
 use Rattle.effects.specs.Apply.{refuse, applied}
 use Rattle.effects.proofs.Kept.{same_old, more_new}
@@ -28,17 +27,17 @@ use Rattle.effects.specs.Call.{with_count, Adding, adding, with_adding, by_verdi
 -- ---- ST
 
 module _ (t : Tables) (s : Step) where
-  pub step_refused : {k : ℕ} → decision t s ≡ Refused k → refuse t k ≡ stepped t s
+  pub step_refused : {k : ℕ} → decision t s ≡ Err k → refuse t k ≡ stepped t s
   unfolding stepped
   step_refused e = sym (ap (by_verdict t) e)
 
-  pub step_taken : {x : Effect} → decision t s ≡ Takes x → applied t x ≡ stepped t s
+  pub step_taken : {x : Effect} → decision t s ≡ Ok x → applied t x ≡ stepped t s
   unfolding stepped
   step_taken e = sym (ap (by_verdict t) e)
 
--- what a verdict that takes says of its plan
-pub writable : (t : Tables) {v : Verdict} {x : Effect} {words : List ℕ} {r : Prepared} → v ≡ Takes x → WritableBy t v words r → Writable t x words r
-writable t {words = words} {r = r} e w = subst (λ (v : Verdict). WritableBy t v words r) e w
+-- what a decision says of its plan
+pub writable : (t : Tables) {v : Result Decision Refusal} {d : Decision} {words : List ℕ} → v ≡ Ok d → WritableBy t v words → Writable t d.effect words d.prepared
+writable t {words = words} e w = subst (λ (v : Result Decision Refusal). WritableBy t v words) e w
 
 module _ (t : Tables) (c : Call) where
   pub check_refused : together t ≡ false → refuse t 10 ≡ checked t c
@@ -70,8 +69,8 @@ step_called t step run a b m time = refl
 
 -- a table that has not grown says old, and with one term more, as the code counts, new
 module _ (h : Realm) (i : ℕ) (ts : List ℕ) where
-  pub old_told : record { answer = answers.Old i; realm = h; table = ts } ≡ adding h (terms.accept i h.terms ts)
+  pub old_told : record { answer = Ok (Old i); realm = h; table = ts } ≡ adding h (terms.accept i h.terms ts)
   old_told = rw (same_old i h.terms)
 
-  pub new_told : record { answer = answers.New i; realm = with_count h (h.terms + 1); table = ts } ≡ adding h (terms.accept i (suc h.terms) ts)
+  pub new_told : record { answer = Ok (New i); realm = with_count h (h.terms + 1); table = ts } ≡ adding h (terms.accept i (suc h.terms) ts)
   new_told = rw (more_new i h.terms, add-one h.terms)

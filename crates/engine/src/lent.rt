@@ -7,12 +7,12 @@ ghost use Rattle.effects.specs.Call.{checked};
 
 use super::call::call;
 use effects::apply::After;
-use exchange::call::{Answer, Call};
+use exchange::call::Call;
 use realm::header::Realm;
 use realm::tables::tables_hold;
+use refusals::Refusal;
 use replay::entry::Entry;
-use synthesis::knowledge::KNOWN_WORDS;
-use terms::rules::REFUSE_TABLES;
+use synthesis::knowledge::Knowledge;
 
 // Adds a term or takes a step, if the tables hold together.
 pub fn checked_call(
@@ -29,9 +29,9 @@ pub fn checked_call(
         return After {
             realm: h,
             cache,
-            answer: Answer::Refused(REFUSE_TABLES),
+            answer: Err(Refusal::Tables),
         };
     }
-    let mut known = [0u64; KNOWN_WORDS];
+    let mut known = Knowledge::new();
     call(h, terms, runs, wire, &mut known, cache, c)
 }

@@ -2,12 +2,10 @@
 -- 32"; "two rule sets, named by header marks H5 and H4 with the layout and limits of HW, and keep the old one under HD and HW".
 -- A constant table, a row for each mark: its two letters, the bits of its flags, the most principals, and its rule set's number.
 -- Assumes nothing.
-use Rattle.std.specs.Prelude.{ℕ, ◌^◌, ◌<◌, cond, List, [], ◌∷◌, eqb}
+use Rattle.std.specs.Prelude.{ℕ, ◌^◌, ◌<◌, List, [], ◌∷◌, find, eqb, Option}
 use Rattle.exchange.specs.declared.header.Flags.TheVariants.{Bits16, Bits32}
 use Rattle.exchange.specs.declared.header.Format.{Format}
 use Rattle.exchange.specs.declared.header.Header.{Header}
-use Rattle.exchange.specs.declared.header.Lookup.{Lookup}
-use Rattle.exchange.specs.declared.header.Lookup.TheVariants.{Found, Missing}
 
 abbrev pub hd : Format
 hd = record { mark = 0x4844; flags = Bits16; most = 16; rules = 0 }
@@ -29,12 +27,8 @@ unfoldable pub formats : List Format
 formats = hd ∷ hw ∷ h5 ∷ h4 ∷ []
 
 -- the first row of a mark
-unfoldable pub row_of : (mark : ℕ) → List Format → Lookup
-row_of mark [] = Missing
-row_of mark (f ∷ fs) = cond (eqb f.mark mark) (Found f) (row_of mark fs)
-
-abbrev pub format_of : (mark : ℕ) → Lookup
-format_of mark = row_of mark formats
+abbrev pub format_of : (mark : ℕ) → Option Format
+format_of mark = find (λ (f : Format). eqb f.mark mark) formats
 
 -- the widths of a header's values behind its mark
 abbrev pub HeaderSized : Header → Type 0

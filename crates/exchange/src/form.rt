@@ -17,11 +17,9 @@ pub const RULE_SETS: u8 = 3;
 const FORMS: [Form; 3] = [Form::Parallel, Form::Kerberos5, Form::Kerberos4];
 
 // The form of a rule set; that of no rule set is not looked at.
+#[tactic(auto, unfolding(crate::specs::Forms::forms))]
 pub fn form_of(rules: u8) -> Form
     ensures { result ≡ form_of rules }
 {
-    if RULE_SETS <= rules {
-        return Form::Parallel;
-    }
-    FORMS[rules as usize]
+    FORMS.get(rules as usize).copied().unwrap_or(Form::Parallel)
 }

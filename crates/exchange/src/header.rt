@@ -2,9 +2,6 @@
 ghost use Rattle.std.specs.Prelude.{◌≡◌};
 ghost use Rattle.exchange.specs.Formats.{format_of};
 
-// No header mark first, or more bytes than a file can have.
-pub const REFUSE_FILE: u8 = 1;
-
 // The values, as the file has them.
 #[repr(C)]
 #[derive(Clone, Copy)]
@@ -65,28 +62,13 @@ const H4: Format = Format {
     rules: 2,
 };
 
-const MARKS: usize = 4;
-
 // A row for each mark.
-const FORMATS: [Format; MARKS] = [HD, HW, H5, H4];
-
-#[derive(Clone, Copy)]
-pub enum Lookup {
-    Found(Format),
-    Missing,
-}
+const FORMATS: [Format; 4] = [HD, HW, H5, H4];
 
 // The row of a mark.
-pub fn format_of(mark: u16) -> Lookup
+#[tactic(auto, unfolding(crate::specs::Formats::formats))]
+pub fn format_of(mark: u16) -> Option<Format>
     ensures { result ≡ format_of mark }
 {
-    let mut i: usize = 0;
-    while i < MARKS {
-        let format = FORMATS[i];
-        if format.mark == mark {
-            return Lookup::Found(format);
-        }
-        i += 1;
-    }
-    Lookup::Missing
+    FORMATS.iter().copied().find(|format| format.mark == mark)
 }

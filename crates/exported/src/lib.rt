@@ -4,6 +4,7 @@
 #![tactic(auto)]
 
 ghost use Rattle.std.specs.Prelude.{◌≡◌};
+ghost use Rattle.refusals.specs.Numbers.{numbered, number_of};
 ghost use Rattle.realm.specs.Opening.{opening_of};
 ghost use Rattle.realm.specs.Tables.{tables};
 ghost use Rattle.calls.specs.Known.{known_of};
@@ -14,12 +15,13 @@ ghost use Rattle.exported.specs.Numbers.{opened_as, call_of, answer_kind, answer
 
 use calls::knowledge::known;
 use calls::{Called, call};
-use exchange::call::{Answer, Call, Names, added};
+use exchange::call::{Accepted, Answer, Call, added};
 use exchange::header::Header;
-use realm::header::{Opening, Realm, open_realm};
+use realm::header::{Realm, open_realm};
+use refusals::Refusal;
 use replay::entry::Entry;
-use walkfile::{Listing, list};
-use writer::walk::{Filing, write_walk};
+use walkfile::list;
+use writer::walk::write_walk;
 
 // A new realm and 0; or a realm of zeros, on which every call gives 10, and the number of the refusal.
 #[repr(C)]
@@ -48,10 +50,10 @@ pub extern "C" fn pogandir_open(header: Header) -> Opened
     ensures { result ≡ opened_as (opening_of header) }
 {
     match open_realm(header) {
-        Opening::Open(realm) => Opened { realm, refusal: 0 },
-        Opening::Refused(refusal) => Opened {
+        Ok(realm) => Opened { realm, refusal: 0 },
+        Err(refusal) => Opened {
             realm: NO_REALM,
-            refusal,
+            refusal: refusal.into(),
         },
     }
 }
@@ -93,64 +95,67 @@ pub struct Reply {
     pub added: u16,
 }
 
-fn call_of(q: Record) -> Call
-    ensures { result ≡ call_of q }
-{
-    if q.adds {
-        return Call::Term {
-            kind: q.kind,
-            l: q.l,
-            r: q.r,
-        };
-    }
-    Call::Step {
-        step: q.step,
-        run: q.run,
-        a: q.a,
-        b: q.b,
-        m: q.m,
-        t: q.t,
+impl From<Record> for Call {
+    ghost from_gives = { λ q c. c ≡ call_of q };
+
+    fn from(q: Record) -> Call {
+        if q.adds {
+            return Call::Term {
+                kind: q.kind,
+                l: q.l,
+                r: q.r,
+            };
+        }
+        Call::Step {
+            step: q.step,
+            run: q.run,
+            a: q.a,
+            b: q.b,
+            m: q.m,
+            t: q.t,
+        }
     }
 }
 
 fn kind_of(answer: Answer) -> u8
-    ensures { result ≡ answer_kind answer }
+    ensures { result ≡ answer_kind (numbered answer) }
 {
     match answer {
-        Answer::Old(_) => NUMBER,
-        Answer::New(_) => NUMBER,
-        Answer::Ok { names, added: _ } => match names {
-            Names::Run(_) => OK_RUN,
-            Names::Nobody => OK,
-        },
-        Answer::Refused(_) => REFUSED,
+        Ok(Accepted::Old(_)) => NUMBER,
+        Ok(Accepted::New(_)) => NUMBER,
+        Ok(Accepted::Taken { names: Some(_), .. }) => OK_RUN,
+        Ok(Accepted::Taken { names: None, .. }) => OK,
+        Err(_) => REFUSED,
     }
 }
 
 fn number_of(answer: Answer) -> u16
-    ensures { result ≡ answer_number answer }
+    ensures { result ≡ answer_number (numbered answer) }
 {
     match answer {
-        Answer::Old(i) => i,
-        Answer::New(i) => i,
-        Answer::Ok { names, added: _ } => match names {
-            Names::Run(run) => run as u16,
-            Names::Nobody => 0,
-        },
-        Answer::Refused(number) => number as u16,
+        Ok(Accepted::Old(i)) => i,
+        Ok(Accepted::New(i)) => i,
+        Ok(
+            Accepted::Taken {
+                names: Some(run),
+                ..
+            },
+        ) => run as u16,
+        Ok(Accepted::Taken { names: None, .. }) => 0,
+        Err(refusal) => u8::from(refusal) as u16,
     }
 }
 
-fn reply_of(x: Called) -> Reply
-    ensures { result ≡ reply_of x }
-{
-    let realm = x.realm;
-    let answer = x.answer;
-    Reply {
-        realm,
-        kind: kind_of(answer),
-        number: number_of(answer),
-        added: added(answer),
+impl From<Called> for Reply {
+    ghost from_gives = { λ x reply. reply ≡ reply_of x.realm (numbered x.answer) };
+
+    fn from(x: Called) -> Reply {
+        Reply {
+            realm: x.realm,
+            kind: kind_of(x.answer),
+            number: number_of(x.answer),
+            added: added(x.answer),
+        }
     }
 }
 
@@ -166,7 +171,17 @@ pub extern "C" fn pogandir_call(
 ) -> Reply
     ensures { (result, tables result.realm terms.new runs.new wire.new list.new) ≡ replied (lent_call (tables h terms.old runs.old wire.old list.old) (call_of q)) }
 {
-    reply_of(call(h, terms, runs, wire, list, call_of(q)))
+    Reply::from(call(h, terms, runs, wire, list, Call::from(q)))
+}
+
+// 0, or the number of the refusal.
+fn status_of(outcome: Result<(), Refusal>) -> u8
+    ensures { result ≡ number_of outcome }
+{
+    match outcome {
+        Ok(()) => 0,
+        Err(refusal) => u8::from(refusal),
+    }
 }
 
 // The set of all terms that the intruder can derive, packed: term i is bit i % 64 of word i / 64. 0, and the set in the eight words of
@@ -175,7 +190,7 @@ pub extern "C" fn pogandir_call(
 pub extern "C" fn pogandir_known(h: Realm, terms: &[u64], wire: &[u64], out: &mut [u64]) -> u8
     ensures { (result, out.new) ≡ known_of h terms.now wire.now out.old }
 {
-    known(h, terms, wire, out)
+    status_of(known(h, terms, wire, out))
 }
 
 // Whether the buffer has room for any listing, and how many of its bytes are the listing's, or else 0.
@@ -192,8 +207,8 @@ pub extern "C" fn pogandir_list(file: &[u8], out: &mut [u8]) -> Listed
     ensures { (result, out.new) ≡ shown (listed file.now out.old) }
 {
     match list(file, out) {
-        Listing::Written(count) => Listed { fits: true, count },
-        Listing::NoRoom => Listed {
+        Some(count) => Listed { fits: true, count },
+        None => Listed {
             fits: false,
             count: 0,
         },
@@ -215,7 +230,10 @@ pub extern "C" fn pogandir_write(header: Header, words: &[u32], out: &mut [u8], 
     ensures { (result, out.new) ≡ filed (write_of header words.now out.old at) }
 {
     match write_walk(header, words, out, at) {
-        Filing::Written(count) => Filed { refusal: 0, count },
-        Filing::Refused(refusal) => Filed { refusal, count: 0 },
+        Ok(count) => Filed { refusal: 0, count },
+        Err(refusal) => Filed {
+            refusal: u8::from(refusal),
+            count: 0,
+        },
     }
 }

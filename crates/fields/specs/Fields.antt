@@ -1,14 +1,12 @@
 -- The fields of the listing's lines (document 01, "File and listing"), as ASCII codes.
 -- Assumes nothing.
-use Rattle.std.specs.Prelude.{cond, List, [], ◌∷◌, ◌++◌, ℕ, zero, suc, ◌+◌, ◌/◌, ◌%◌, ltb}
+use Rattle.std.specs.Prelude.{cond, List, [], ◌∷◌, ◌++◌, ℕ, zero, suc, ◌+◌, ◌/◌, ◌%◌, ltb, Option, Some, None, Ok, Err}
 use Prim.Native.Char.{code}
 use Prim.Native.String.{String, [] as []ₛ, ◌∷◌ as ◌∷ₛ◌}
-use Rattle.exchange.specs.declared.call.Answer.{Answer}
-use Rattle.exchange.specs.declared.call.Answer.TheVariants.{Old, New, Ok, Refused}
+use Rattle.exchange.specs.Calls.{Answer}
+use Rattle.exchange.specs.declared.call.Accepted.TheVariants.{Old, New, Taken}
 use Rattle.exchange.specs.declared.call.Call.{Call}
 use Rattle.exchange.specs.declared.call.Call.TheVariants.{Term, Step}
-use Rattle.exchange.specs.declared.call.Names.{Names}
-use Rattle.exchange.specs.declared.call.Names.TheVariants.{Run, Nobody}
 
 -- ---- texts and numbers
 
@@ -38,14 +36,14 @@ mark_text (Term kind l r) = ascii " TM "
 mark_text (Step step run a b m t) = ascii " ST "
 
 -- "for ST `ok` and the run opened by steps 1 to 3 or named in steps 4, 5, 6 and 9, else `-`"
-unfoldable pub names_text : Names → List ℕ
-names_text (Run r) = field "ok " r
-names_text Nobody = ascii "ok -"
+unfoldable pub names_text : Option ℕ → List ℕ
+names_text (Some r) = field "ok " r
+names_text None = ascii "ok -"
 
 -- "for TM the term number", "A refusal prints `refused` and the number"; "A TM line ends in `new` or `old`; an accepted ST line
 -- ends in `+` and the number of terms added"
 unfoldable pub answer_text : Answer → List ℕ
-answer_text (Old i) = decimal i ++ ascii " old"
-answer_text (New i) = decimal i ++ ascii " new"
-answer_text (Ok who k) = names_text who ++ field " +" k
-answer_text (Refused k) = field "refused " k
+answer_text (Ok (Old i)) = decimal i ++ ascii " old"
+answer_text (Ok (New i)) = decimal i ++ ascii " new"
+answer_text (Ok (Taken who k)) = names_text who ++ field " +" k
+answer_text (Err k) = field "refused " k

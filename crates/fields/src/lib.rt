@@ -2,10 +2,11 @@
 #![tactic(auto)]
 
 ghost use Rattle.std.specs.Prelude.{◌++◌, ◌≡◌, ◌+◌, ◌≤◌, length};
+ghost use Rattle.refusals.specs.Numbers.{numbered};
 ghost use Rattle.fields.specs.Fields.{decimal, mark_text, names_text, answer_text};
 ghost use Rattle.fields.specs.Placed.{Wrote};
 
-use exchange::call::{Answer, Call, Names};
+use exchange::call::{Accepted, Answer, Call};
 
 // A text as it is.
 pub fn write_text(out: &mut [u8], at: usize, text: &[u8]) -> usize
@@ -62,19 +63,8 @@ pub fn write_mark(out: &mut [u8], at: usize, call: Call) -> usize
     ensures { Wrote out.old at (mark_text call) out.new result × (result ≡ at + 4) }
 {
     match call {
-        Call::Term {
-            kind: _,
-            l: _,
-            r: _,
-        } => write_text(out, at, b" TM "),
-        Call::Step {
-            step: _,
-            run: _,
-            a: _,
-            b: _,
-            m: _,
-            t: _,
-        } => write_text(out, at, b" ST "),
+        Call::Term { .. } => write_text(out, at, b" TM "),
+        Call::Step { .. } => write_text(out, at, b" ST "),
     }
 }
 
@@ -88,28 +78,28 @@ fn write_term(out: &mut [u8], at: usize, term: u16, text: &[u8]) -> usize
 }
 
 // `ok`, and the run or none.
-fn write_names(out: &mut [u8], at: usize, names: Names) -> usize
+fn write_names(out: &mut [u8], at: usize, names: Option<u8>) -> usize
     requires { at + 13 ≤ length out.old }
     ensures { Wrote out.old at (names_text names) out.new result × (result ≤ at + 6) }
 {
     match names {
-        Names::Run(run) => write_field(out, at, b"ok ", run as u32),
-        Names::Nobody => write_text(out, at, b"ok -"),
+        Some(run) => write_field(out, at, b"ok ", run as u32),
+        None => write_text(out, at, b"ok -"),
     }
 }
 
 // What a record was answered.
 pub fn write_answer(out: &mut [u8], at: usize, answer: Answer) -> usize
     requires { at + 18 ≤ length out.old }
-    ensures { Wrote out.old at (answer_text answer) out.new result × (result ≤ at + 13) }
+    ensures { Wrote out.old at (answer_text (numbered answer)) out.new result × (result ≤ at + 13) }
 {
     match answer {
-        Answer::Old(term) => write_term(out, at, term, b" old"),
-        Answer::New(term) => write_term(out, at, term, b" new"),
-        Answer::Ok { names, added } => {
+        Ok(Accepted::Old(term)) => write_term(out, at, term, b" old"),
+        Ok(Accepted::New(term)) => write_term(out, at, term, b" new"),
+        Ok(Accepted::Taken { names, added }) => {
             let next = write_names(out, at, names);
             write_field(out, next, b" +", added as u32)
         }
-        Answer::Refused(refusal) => write_field(out, at, b"refused ", refusal as u32),
+        Err(refusal) => write_field(out, at, b"refused ", u8::from(refusal) as u32),
     }
 }

@@ -3,33 +3,28 @@
 -- kind 1." Values that a step compares with its run's own are answered as they are, and so are the a and b of a request,
 -- which step 3 itself finds "unequal and not 0".
 -- Assumes nothing.
-use Rattle.std.proofs.Math.Option.{Option, none, some}
-use Rattle.std.specs.Prelude.{ℕ}
+use Rattle.std.specs.Prelude.{ℕ, Option, option_map}
 use Rattle.terms.specs.Message.{Message}
 use Rattle.layers.specs.Layers.{PRINCIPAL, TIME, NONCE, SESSION_KEY, atom, first, under, ◌▸◌}
 use Rattle.forms.specs.declared.Confirmation.{Confirmation}
-use Rattle.forms.specs.declared.Confirmation.TheVariants as confirmations
 use Rattle.forms.specs.declared.Request.{Request}
-use Rattle.forms.specs.declared.Request.TheVariants as requests
 
 -- step 3: "m is [a, b, any nonce N]"
 abbrev pub request_form : Message → Option (ℕ × (ℕ × ℕ))
 request_form = first PRINCIPAL ▸ first PRINCIPAL ▸ atom NONCE
 
-abbrev pub request_of : Option (ℕ × (ℕ × ℕ)) → Request
-request_of none = requests.Other
-request_of (some (a, (b, n))) = requests.Is a b n
+abbrev pub request_of : ℕ × (ℕ × ℕ) → Request
+request_of (a, (b, n)) = record { a = a; b = b; n = n }
 
-unfoldable pub request_in : Message → Request
-request_in m = request_of (request_form m)
+unfoldable pub request_in : Message → Option Request
+request_in m = option_map request_of (request_form m)
 
 -- step 6: "m is {Ta}K"
 abbrev pub confirmation_form : Message → Option (ℕ × ℕ)
 confirmation_form = under SESSION_KEY ▸ atom TIME
 
-abbrev pub confirmation_of : Option (ℕ × ℕ) → Confirmation
-confirmation_of none = confirmations.Other
-confirmation_of (some (k, ta)) = confirmations.Is ta k
+abbrev pub confirmation_of : ℕ × ℕ → Confirmation
+confirmation_of (k, ta) = record { ta = ta; k = k }
 
-unfoldable pub confirmation_in : Message → Confirmation
-confirmation_in m = confirmation_of (confirmation_form m)
+unfoldable pub confirmation_in : Message → Option Confirmation
+confirmation_in m = option_map confirmation_of (confirmation_form m)

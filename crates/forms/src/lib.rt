@@ -1,5 +1,5 @@
-// The messages that steps 3 to 6 take, taken apart from the outside in. The first layer that does not fit ends it with
-// `Other`, which the step that asked turns into refusal 14. Tests of a value against the run's own are the steps'.
+// The messages that steps 3 to 6 take, taken apart from the outside in. A message of another form is `None`, which the step
+// that asked turns into refusal 14. Tests of a value against the run's own are the steps'.
 #![tactic(auto)]
 
 ghost use Rattle.std.specs.Prelude.{◌≡◌};
@@ -11,122 +11,92 @@ ghost use Rattle.forms.specs.Forms.{request_in, confirmation_in};
 ghost use Rattle.forms.specs.Grant.{reply_form, alone, grant_of, pair_in, grant_in, Replies, Grants};
 
 use exchange::form::Form;
-use layers::{
-    Opened, OpenedTime, nonce_first, principal_first, session_key_first, term_at, time_first,
-    under_long_term_key, under_session_key,
-};
+use layers::{LongTermKey, Nonce, Principal, SessionKey, Time, atom, first, term_at, under};
 use words::Term;
 
-#[derive(Clone, Copy)]
-pub enum Request {
-    Is { a: u16, b: u16, n: u16 },
-    Other,
+#[derive(Clone, Copy, Debug, PartialEq, Eq)]
+pub struct Request {
+    pub a: u16,
+    pub b: u16,
+    pub n: u16,
 }
 
 // [a, b, N].
-pub fn open_request(terms: &[u64], m: u16) -> Request
+pub fn open_request(terms: &[u64], m: u16) -> Option<Request>
     requires { Present terms.now m }
     ensures { result ≡ request_in (message_at terms.now m) }
 {
-    let Opened::Value(a, after_a) = principal_first(terms, m) else {
-        return Request::Other;
-    };
-    let Opened::Value(b, after_b) = principal_first(terms, after_a) else {
-        return Request::Other;
-    };
-    let Term::Nonce(n) = term_at(terms, after_b) else {
-        return Request::Other;
-    };
-    Request::Is { a, b, n }
+    let (Principal(a), after_a) = first(terms, m)?;
+    let (Principal(b), after_b) = first(terms, after_a)?;
+    let Nonce(n) = atom(terms, after_b)?;
+    Some(Request { a, b, n })
 }
 
 // What is read of {K, b, Ts, ..} under a's key, and the number of the term that is left.
 #[derive(Clone, Copy)]
-pub enum Reply {
-    Is {
-        k: u16,
-        b: u16,
-        ts: u32,
-        a: u16,
-        rest: u16,
-    },
-    Other,
+struct Reply {
+    k: u16,
+    b: u16,
+    ts: u32,
+    a: u16,
+    rest: u16,
 }
 
-fn open_reply(terms: &[u64], m: u16) -> Reply
+fn open_reply(terms: &[u64], m: u16) -> Option<Reply>
     requires { Present terms.now m }
     ensures { Replies terms.now m result (reply_form (message_at terms.now m)) }
 {
-    let Opened::Value(a, body) = under_long_term_key(terms, m) else {
-        return Reply::Other;
-    };
-    let Opened::Value(k, after_k) = session_key_first(terms, body) else {
-        return Reply::Other;
-    };
-    let Opened::Value(b, after_b) = principal_first(terms, after_k) else {
-        return Reply::Other;
-    };
-    let OpenedTime::Value(ts, rest) = time_first(terms, after_b) else {
-        return Reply::Other;
-    };
-    Reply::Is { k, b, ts, a, rest }
+    let (LongTermKey(a), body) = under(terms, m)?;
+    let (SessionKey(k), after_k) = first(terms, body)?;
+    let (Principal(b), after_b) = first(terms, after_k)?;
+    let (Time(ts), rest) = first(terms, after_b)?;
+    Some(Reply { k, b, ts, a, rest })
 }
 
 // What the initiator takes: the server's reply, and the number of the term X, which is not opened.
-#[derive(Clone, Copy)]
-pub enum Grant {
-    Is {
-        k: u16,
-        b: u16,
-        ts: u32,
-        n: u16,
-        a: u16,
-        x: u16,
-    },
-    Other,
+#[derive(Clone, Copy, Debug, PartialEq, Eq)]
+pub struct Grant {
+    pub k: u16,
+    pub b: u16,
+    pub ts: u32,
+    pub n: u16,
+    pub a: u16,
+    pub x: u16,
 }
 
 // {K, b, Ts, N} under a's key, with an X that stands beside it.
-fn open_beside(terms: &[u64], m: u16, x: u16) -> Grant
+fn open_beside(terms: &[u64], m: u16, x: u16) -> Option<Grant>
     requires { Present terms.now m }
     ensures { Grants terms.now x result (grant_of (reply_form (message_at terms.now m)) (alone (message_at terms.now x))) }
 {
-    let Reply::Is { k, b, ts, a, rest } = open_reply(terms, m) else {
-        return Grant::Other;
-    };
-    let Term::Nonce(n) = term_at(terms, rest) else {
-        return Grant::Other;
-    };
-    Grant::Is { k, b, ts, n, a, x }
+    let Reply { k, b, ts, a, rest } = open_reply(terms, m)?;
+    let Nonce(n) = atom(terms, rest)?;
+    Some(Grant { k, b, ts, n, a, x })
 }
 
 // {K, b, Ts, N, X} under a's key.
-fn open_inside(terms: &[u64], m: u16) -> Grant
+fn open_inside(terms: &[u64], m: u16) -> Option<Grant>
     requires { Present terms.now m }
     ensures { Grants terms.now m result (grant_of (reply_form (message_at terms.now m)) (first NONCE)) }
 {
-    let Reply::Is { k, b, ts, a, rest } = open_reply(terms, m) else {
-        return Grant::Other;
-    };
-    let Opened::Value(n, x) = nonce_first(terms, rest) else {
-        return Grant::Other;
-    };
-    Grant::Is { k, b, ts, n, a, x }
+    let Reply { k, b, ts, a, rest } = open_reply(terms, m)?;
+    let (Nonce(n), x) = first(terms, rest)?;
+    Some(Grant { k, b, ts, n, a, x })
 }
 
 // The pair of {K, b, Ts, N} under a's key and X.
-fn open_pair(terms: &[u64], m: u16) -> Grant
+fn open_pair(terms: &[u64], m: u16) -> Option<Grant>
     requires { Present terms.now m }
     ensures { Grants terms.now m result (pair_in (message_at terms.now m)) }
 {
     let Term::Pair(l, x) = term_at(terms, m) else {
-        return Grant::Other;
+        return None;
     };
     open_beside(terms, l, x)
 }
 
 // By the form. Where there is no X the message itself stands for it.
-pub fn open_grant(form: Form, terms: &[u64], m: u16) -> Grant
+pub fn open_grant(form: Form, terms: &[u64], m: u16) -> Option<Grant>
     requires { Present terms.now m }
     ensures { Grants terms.now m result (grant_in form (message_at terms.now m)) }
 {
@@ -137,111 +107,85 @@ pub fn open_grant(form: Form, terms: &[u64], m: u16) -> Grant
     }
 }
 
-#[derive(Clone, Copy)]
-pub enum Ticket {
-    Is { k: u16, a: u16, ts: u32, b: u16 },
-    Other,
+#[derive(Clone, Copy, Debug, PartialEq, Eq)]
+pub struct Ticket {
+    pub k: u16,
+    pub a: u16,
+    pub ts: u32,
+    pub b: u16,
 }
 
 // {K, a, Ts} under b's key.
-pub fn open_ticket(terms: &[u64], m: u16) -> Ticket
+pub fn open_ticket(terms: &[u64], m: u16) -> Option<Ticket>
     requires { Present terms.now m }
     ensures { result ≡ ticket_in (message_at terms.now m) }
 {
-    let Opened::Value(b, body) = under_long_term_key(terms, m) else {
-        return Ticket::Other;
-    };
-    let Opened::Value(k, after_k) = session_key_first(terms, body) else {
-        return Ticket::Other;
-    };
-    let Opened::Value(a, after_a) = principal_first(terms, after_k) else {
-        return Ticket::Other;
-    };
-    let Term::Time(ts) = term_at(terms, after_a) else {
-        return Ticket::Other;
-    };
-    Ticket::Is { k, a, ts, b }
+    let (LongTermKey(b), body) = under(terms, m)?;
+    let (SessionKey(k), after_k) = first(terms, body)?;
+    let (Principal(a), after_a) = first(terms, after_k)?;
+    let Time(ts) = atom(terms, after_a)?;
+    Some(Ticket { k, a, ts, b })
 }
 
-#[derive(Clone, Copy)]
-pub enum Authenticator {
-    Is { a: u16, ta: u32, k: u16 },
-    Other,
+#[derive(Clone, Copy, Debug, PartialEq, Eq)]
+pub struct Authenticator {
+    pub a: u16,
+    pub ta: u32,
+    pub k: u16,
 }
 
 // {a, Ta}K.
-pub fn open_authenticator(terms: &[u64], m: u16) -> Authenticator
+pub fn open_authenticator(terms: &[u64], m: u16) -> Option<Authenticator>
     requires { Present terms.now m }
     ensures { result ≡ authenticator_in (message_at terms.now m) }
 {
-    let Opened::Value(k, body) = under_session_key(terms, m) else {
-        return Authenticator::Other;
-    };
-    let Opened::Value(a, after_a) = principal_first(terms, body) else {
-        return Authenticator::Other;
-    };
-    let Term::Time(ta) = term_at(terms, after_a) else {
-        return Authenticator::Other;
-    };
-    Authenticator::Is { a, ta, k }
+    let (SessionKey(k), body) = under(terms, m)?;
+    let (Principal(a), after_a) = first(terms, body)?;
+    let Time(ta) = atom(terms, after_a)?;
+    Some(Authenticator { a, ta, k })
 }
 
-#[derive(Clone, Copy)]
-pub enum Delivery {
-    Is {
-        k: u16,
-        a: u16,
-        ts: u32,
-        b: u16,
-        ta: u32,
-    },
-    Other,
+#[derive(Clone, Copy, Debug, PartialEq, Eq)]
+pub struct Delivery {
+    pub k: u16,
+    pub a: u16,
+    pub ts: u32,
+    pub b: u16,
+    pub ta: u32,
 }
 
 // The pair of {K, a, Ts} under b's key and {a, Ta}K, with the same K and a in both.
-pub fn open_delivery(terms: &[u64], m: u16) -> Delivery
+pub fn open_delivery(terms: &[u64], m: u16) -> Option<Delivery>
     requires { Present terms.now m }
     ensures { result ≡ delivery_in (message_at terms.now m) }
 {
     let Term::Pair(l, r) = term_at(terms, m) else {
-        return Delivery::Other;
+        return None;
     };
-    let Ticket::Is { k, a, ts, b } = open_ticket(terms, l) else {
-        return Delivery::Other;
-    };
-    let Authenticator::Is {
+    let Ticket { k, a, ts, b } = open_ticket(terms, l)?;
+    let Authenticator {
         a: sender,
         ta,
-        k: under,
-    } = open_authenticator(terms, r)
-    else {
-        return Delivery::Other;
-    };
-    if sender != a {
-        return Delivery::Other;
+        k: key,
+    } = open_authenticator(terms, r)?;
+    if sender != a || key != k {
+        return None;
     }
-    if under != k {
-        return Delivery::Other;
-    }
-    Delivery::Is { k, a, ts, b, ta }
+    Some(Delivery { k, a, ts, b, ta })
 }
 
-#[derive(Clone, Copy)]
-pub enum Confirmation {
-    Is { ta: u32, k: u16 },
-    Other,
+#[derive(Clone, Copy, Debug, PartialEq, Eq)]
+pub struct Confirmation {
+    pub ta: u32,
+    pub k: u16,
 }
 
 // {Ta}K.
-pub fn open_confirmation(terms: &[u64], m: u16) -> Confirmation
+pub fn open_confirmation(terms: &[u64], m: u16) -> Option<Confirmation>
     requires { Present terms.now m }
     ensures { result ≡ confirmation_in (message_at terms.now m) }
 {
-    let Opened::Value(k, body) = under_session_key(terms, m) else {
-        return Confirmation::Other;
-    };
-    let Term::Time(ta) = term_at(terms, body) else {
-        return Confirmation::Other;
-    };
-    Confirmation::Is { ta, k }
+    let (SessionKey(k), body) = under(terms, m)?;
+    let Time(ta) = atom(terms, body)?;
+    Some(Confirmation { ta, k })
 }

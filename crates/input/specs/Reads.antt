@@ -3,7 +3,7 @@
 -- their parts stand one behind the other (`both_in_order`). Which bytes they are the contracts say, of a reader that tells what it
 -- has left; of a file or a terminal nobody can.
 -- Assumes nothing.
-use Rattle.std.specs.Prelude.{List, ◌≡◌, ℕ, ◌≤◌, length, take}
+use Rattle.std.specs.Prelude.{List, ◌≡◌, ℕ, ◌≤◌, Result, Ok, Err, length, take}
 use Rattle.io.specs.Counts.{IsPrefixLen}
 
 -- the first `count` bytes stand where they stood, and what was read stands behind them, up to `next`
@@ -12,3 +12,8 @@ pub record Reads (before : List ℕ) (count : ℕ) (after : List ℕ) (next : �
   pub same : length after ≡ length before
   pub grown : count ≤ next
   pub within : IsPrefixLen next after
+
+-- how many bytes a read gave, none where it failed
+abbrev pub given : {E : Type 0} → Result ℕ E → ℕ
+given (Ok n) = n
+given (Err e) = 0

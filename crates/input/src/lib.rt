@@ -1,11 +1,10 @@
 // Reading an input into a lent buffer, each part behind those before it.
 #![tactic(auto)]
 
-ghost use Rattle.std.specs.Prelude.{◌+◌, ◌-◌, ◌<◌, ◌≤◌, ◌≡◌, length, slice_range, pos};
+ghost use Rattle.std.specs.Prelude.{◌+◌, ◌<◌, ◌≤◌, ◌≡◌, ◌↔◌, length, slice_range, Ok};
 ghost use Rattle.std.specs.Io.{ReadsAtMost};
 ghost use Rattle.std.specs.Io.KnownBytes.{ReadConsumes, Consumes, IsAtEnd};
-ghost use Rattle.io.specs.Counts.{clamp_len};
-ghost use Rattle.input.specs.Reads.{Reads};
+ghost use Rattle.input.specs.Reads.{Reads, given};
 
 use std::io::{Error, ErrorKind, Read, Result};
 
@@ -13,12 +12,22 @@ use std::io::{Error, ErrorKind, Read, Result};
 // bounds the loop.
 const INTERRUPTIONS: u32 = 1000000;
 
-// How many bytes of the buffer are read, and what the last read answered: above 0 where the buffer is full, 0 at the end of
-// the input, below 0 where it failed.
-#[derive(Clone, Copy)]
+// Why reading stopped.
+#[derive(Clone, Copy, Debug, PartialEq, Eq)]
+pub enum Stop {
+    // The buffer is full.
+    Full,
+    // The input has ended.
+    End,
+    // A read failed.
+    Failed,
+}
+
+// How many bytes of the buffer are read, and why it is no more.
+#[derive(Clone, Copy, Debug, PartialEq, Eq)]
 pub struct Input {
     pub count: usize,
-    pub last: isize,
+    pub stop: Stop,
 }
 
 // Whether a signal interrupted the read that failed so.
@@ -45,23 +54,13 @@ fn read_part<R: Read>(reader: &mut R, part: &mut [u8]) -> Result<usize>
 }
 
 // One read behind the first `count` bytes.
-fn read_more<R: Read>(reader: &mut R, buffer: &mut [u8], count: usize) -> Input
+fn read_more<R: Read>(reader: &mut R, buffer: &mut [u8], count: usize) -> Result<usize>
     requires { count ≤ length buffer.old }
-    ensures reads { Reads buffer.old count buffer.new result.count }
-    ensures count_value { result.count ≡ count + clamp_len result.last (length buffer.old - count) }
-    ensures bytes { Consumes (R.remaining reader.old) (R.remaining reader.new) (slice_range buffer.new count result.count) }
-    ensures end { result.last ≡ pos 0 → count < length buffer.old → IsAtEnd (R.remaining reader.new) }
+    ensures reads { Reads buffer.old count buffer.new (count + given result) }
+    ensures bytes { Consumes (R.remaining reader.old) (R.remaining reader.new) (slice_range buffer.new count (count + given result)) }
+    ensures end { result ≡ Ok 0 → count < length buffer.old → IsAtEnd (R.remaining reader.new) }
 {
-    match read_part(reader, &mut buffer[count..]) {
-        Ok(more) => {
-            let end = count + more;
-            Input {
-                count: end,
-                last: more as isize,
-            }
-        }
-        Err(_) => Input { count, last: -1 },
-    }
+    read_part(reader, &mut buffer[count..])
 }
 
 // Reads behind the first `count` bytes until the buffer is full or a read gives nothing: at the end of the input, or where it
@@ -69,17 +68,30 @@ fn read_more<R: Read>(reader: &mut R, buffer: &mut [u8], count: usize) -> Input
 pub fn read_behind<R: Read>(reader: &mut R, buffer: &mut [u8], count: usize) -> Input
     requires { count ≤ length buffer.old }
     ensures reads { Reads buffer.old count buffer.new result.count }
-    ensures count_len { clamp_len result.last (length buffer.new - result.count) ≡ 0 }
+    ensures full { result.stop ≡ Stop.Full ↔ result.count ≡ length buffer.new }
     ensures bytes { Consumes (R.remaining reader.old) (R.remaining reader.new) (slice_range buffer.new count result.count) }
-    ensures end { result.last ≡ pos 0 → IsAtEnd (R.remaining reader.new) }
+    ensures end { result.stop ≡ Stop.End → IsAtEnd (R.remaining reader.new) }
 {
     let mut at = count;
     while at < buffer.len() {
-        let next = read_more(reader, buffer, at);
-        if next.count == at {
-            return next;
+        match read_more(reader, buffer, at) {
+            Ok(0) => {
+                return Input {
+                    count: at,
+                    stop: Stop::End,
+                };
+            }
+            Ok(more) => at += more,
+            Err(_) => {
+                return Input {
+                    count: at,
+                    stop: Stop::Failed,
+                };
+            }
         }
-        at = next.count;
     }
-    Input { count: at, last: 1 }
+    Input {
+        count: at,
+        stop: Stop::Full,
+    }
 }

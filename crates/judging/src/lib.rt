@@ -5,16 +5,16 @@ ghost use Rattle.std.specs.Prelude.{◌≡◌};
 ghost use Rattle.comparison.specs.Compare.{difference};
 ghost use Rattle.walkfile.specs.Listing.{listing_of};
 
-use comparison::{Verdict, first_difference};
-use walkfile::{LISTING_BYTES, Listing, list};
+use comparison::first_difference;
+use walkfile::{LISTING_BYTES, list};
 
-// The listing of a walk file, against the stored one. The buffer has room for it.
-pub fn judge(file: &[u8], stored: &[u8]) -> Verdict
+// The listing of a walk file, against the stored one: the line where they differ first, or none. The buffer has room for it.
+pub fn judge(file: &[u8], stored: &[u8]) -> Option<usize>
     ensures { result ≡ difference 1 (listing_of file.now) stored.now }
 {
     let mut out = [0u8; LISTING_BYTES];
     match list(file, &mut out) {
-        Listing::NoRoom => Verdict::Line(0),
-        Listing::Written(end) => first_difference(&out[..end], stored),
+        None => Some(0),
+        Some(end) => first_difference(&out[..end], stored),
     }
 }

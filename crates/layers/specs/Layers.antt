@@ -2,9 +2,7 @@
 -- with what is left. A form is then written as the paper writes it, `first PRINCIPAL ▸ first PRINCIPAL ▸ atom NONCE`, and
 -- one law for `▸` and one for each kind of layer say which messages have it.
 -- Assumes nothing.
-use Rattle.std.specs.Prelude.{cond, ℕ, eqb}
-use Rattle.std.proofs.Math.Option.{Option, none, some}
-use Rattle.traces.specs.Terms.{given}
+use Rattle.std.specs.Prelude.{cond, ℕ, eqb, Option, None, Some, option_and_then, option_map}
 use Rattle.terms.specs.Message.{long_term, session, Message, principal, time, nonce, key, pair, encrypted}
 
 -- "A term has a kind and operands L and R": the table of kinds
@@ -59,7 +57,7 @@ operands (encrypted m k) = (m, key k)
 
 -- what f reads of a message, if that is of this kind
 unfoldable pub of_kind : {A : Type 0} → ℕ → (Message → A) → Message → Option A
-of_kind k f m = cond (eqb (kind m) k) (some (f m)) none
+of_kind k f m = cond (eqb (kind m) k) (Some (f m)) None
 
 -- the number of a principal, a time, a nonce or a key
 abbrev pub atom : ℕ → Message → Option ℕ
@@ -67,7 +65,7 @@ atom k = of_kind k number
 
 -- one layer: a pair or an encryption, of whose operands one is read, if it is of kind k, and the other is left
 unfoldable pub layer : (outer : ℕ) (value rest : Message × Message → Message) (k : ℕ) → Message → Option (ℕ × Message)
-layer outer value rest k m = given (of_kind outer operands m) none (λ p. given (atom k (value p)) none (λ v. some (v, rest p)))
+layer outer value rest k m = option_and_then (λ p. option_map (λ v. (v, rest p)) (atom k (value p))) (of_kind outer operands m)
 
 -- "[p, q, r] for the pair of p and the pair of q and r": p, and [q, r] is left
 abbrev pub first : ℕ → Message → Option (ℕ × Message)
@@ -79,8 +77,8 @@ under = layer ENCRYPTED (λ p. p.1) (λ p. p.0)
 
 -- what s reads of the message that a layer left
 abbrev pub after : {A : Type 0} → (Message → Option A) → Option (ℕ × Message) → Option (ℕ × A)
-after s none = none
-after s (some (v, x)) = given (s x) none (λ w. some (v, w))
+after s None = None
+after s (Some (v, x)) = option_map (λ w. (v, w)) (s x)
 
 -- a layer, and then what is left
 infixr 5 ◌▸◌

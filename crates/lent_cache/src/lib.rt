@@ -5,11 +5,12 @@
 pub mod pass; // forgetting in one pass
 
 ghost use Rattle.std.specs.Prelude.{◌≡◌, length};
-ghost use Rattle.replay.specs.Cache.{cache_outcome, remembered, forgotten};
+ghost use Rattle.replay.specs.Cache.{list_outcome, remembered, forgotten};
 
 use crate::pass::pass_over;
+use refusals::Refusal;
 use replay::cache;
-use replay::entry::{Answer, EMPTY, Entry, PLACES, Purge, REFUSE_TABLES};
+use replay::entry::{EMPTY, Entry, PLACES, Purge};
 
 // The sixteen places of a lent list, by value.
 pub fn load(list: &[Entry]) -> [Entry; PLACES]
@@ -17,11 +18,7 @@ pub fn load(list: &[Entry]) -> [Entry; PLACES]
     ensures { result ≡ list.now }
 {
     let mut places = [EMPTY; PLACES];
-    let mut i = 0;
-    while i < PLACES {
-        places[i] = list[i];
-        i += 1;
-    }
+    places.copy_from_slice(list);
     places
 }
 
@@ -30,34 +27,30 @@ pub fn store(list: &mut [Entry], places: [Entry; PLACES])
     requires { length list.old ≡ 16 }
     ensures { list.new ≡ places }
 {
-    let mut i = 0;
-    while i < PLACES {
-        list[i] = places[i];
-        i += 1;
-    }
+    list.copy_from_slice(&places);
 }
 
-// Puts `e` behind the entries of the list. Refused: 10, 18 and 19.
-pub fn remember(list: &mut [Entry], count: usize, e: Entry) -> Answer
-    ensures { cache_outcome result list.new ≡ remembered list.old count e }
+// Puts `e` behind the entries of the list, and answers how many there are. Refused: 10, 18 and 19.
+pub fn remember(list: &mut [Entry], count: usize, e: Entry) -> Result<usize, Refusal>
+    ensures { list_outcome result list.new ≡ remembered list.old count e }
 {
     if list.len() != PLACES {
-        return Answer::Refused(REFUSE_TABLES);
+        return Err(Refusal::Tables);
     }
-    let after = cache::remember(load(list), count, e);
+    let after = cache::remember(load(list), count, e)?;
     store(list, after.places);
-    after.answer
+    Ok(after.count)
 }
 
-// Forgets the entries of a principal whose life is over. Refused: 10.
-pub fn forget(list: &mut [Entry], count: usize, p: Purge) -> Answer
-    ensures { cache_outcome result list.new ≡ forgotten list.old count p }
+// Forgets the entries of a principal whose life is over, and answers how many are left. Refused: 10.
+pub fn forget(list: &mut [Entry], count: usize, p: Purge) -> Result<usize, Refusal>
+    ensures { list_outcome result list.new ≡ forgotten list.old count p }
 {
     if list.len() != PLACES {
-        return Answer::Refused(REFUSE_TABLES);
+        return Err(Refusal::Tables);
     }
     if PLACES < count {
-        return Answer::Refused(REFUSE_TABLES);
+        return Err(Refusal::Tables);
     }
-    Answer::Count(pass_over(list, count, p))
+    Ok(pass_over(list, count, p))
 }

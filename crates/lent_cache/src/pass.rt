@@ -3,14 +3,14 @@ ghost use Rattle.std.specs.Prelude.{◌≡◌, List, ◌+◌, ◌<◌, ◌≤◌
 ghost use Rattle.replay.specs.declared.entry.Entry.{Entry};
 ghost use Rattle.replay.specs.Cache.{swept, after_read, sweeping};
 
-use replay::cache::{Swept, survives};
-use replay::entry::{EMPTY, Entry, PLACES, Purge};
+use replay::cache::{Cache, survives};
+use replay::entry::{EMPTY, Entry, Purge};
 
 // One turn of the pass: `i` entries are read and `left` of them are kept; it reads the next, and gives the number of those kept.
+// `before` is the list before the pass.
 fn read_entry(list: &mut [Entry], left: usize, i: usize, p: Purge) -> usize
-    ghost before: { List Entry }
-    requires { (i < length before) × (swept list.old left ≡ after_read p before i) }
-    ensures { swept list.new result ≡ after_read p before (i + 1) }
+    requires { (i < length list.old) × (left ≤ i) }
+    ensures { (before : List Entry) → i < length before → swept list.old left ≡ after_read p before i → swept list.new result ≡ after_read p before (i + 1) }
 {
     let x = list[i];
     list[i] = EMPTY;
@@ -21,39 +21,23 @@ fn read_entry(list: &mut [Entry], left: usize, i: usize, p: Purge) -> usize
     left
 }
 
-// The turns of the pass, one for each of the first `count` places; `before` is the list that each of them speaks of.
-fn read_entries(list: &mut [Entry], count: usize, p: Purge) -> usize
-    ghost before: { List Entry }
-    requires begun { list.old ≡ before }
-    requires within { count ≤ length before }
-    ensures { swept list.new result ≡ sweeping before count p }
-{
-    let mut left = 0;
-    let mut i = 0;
-    while i < count {
-        left = read_entry(list, left, i, p);
-        i += 1;
-    }
-    left
-}
-
-// The pass over the first `count` places: it gives the number of those kept.
+// The pass over the first `count` places, a turn for each: it gives the number of those kept.
 pub fn pass_over(list: &mut [Entry], count: usize, p: Purge) -> usize
     requires { count ≤ length list.old }
     ensures { swept list.new result ≡ sweeping list.old count p }
 {
-    read_entries(list, count, p)
+    let mut left = 0;
+    for i in 0..count {
+        left = read_entry(list, left, i, p);
+    }
+    left
 }
 
 // The same of sixteen places by value.
-pub fn sweep(places: [Entry; PLACES], count: usize, p: Purge) -> Swept
-    requires { count ≤ 16 }
-    ensures { result ≡ sweeping places count p }
+pub fn sweep(cache: Cache, p: Purge) -> Cache
+    ensures { result ≡ sweeping cache.places cache.count p }
 {
-    let mut next = places;
-    let left = pass_over(&mut next, count, p);
-    Swept {
-        places: next,
-        count: left,
-    }
+    let mut places = cache.places;
+    let count = pass_over(&mut places, cache.count, p);
+    Cache { places, count }
 }

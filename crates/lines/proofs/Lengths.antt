@@ -6,7 +6,7 @@ use Rattle.std.proofs.Common.{ap, ◌∙◌}
 use Prim.Native.Nat.{ℕ, suc, ◌+◌, ◌*◌, ◌^◌, ◌≤◌, ◌<◌}
 use native.Mathlib.Omega.{arith}
 use Rattle.std.proofs.Math.ListN.{length-append}
-use Rattle.exchange.specs.declared.call.Answer.{Answer}
+use Rattle.exchange.specs.Calls.{Answer}
 use Rattle.exchange.specs.declared.call.Call.{Call}
 use Rattle.fields.proofs.Decimal.{decimal_short}
 use Rattle.fields.specs.Fields.{ascii, decimal, field, mark_text, answer_text}

@@ -3,7 +3,7 @@
 -- Assumes nothing.
 use Rattle.std.proofs.Common.{arith}
 use Rattle.std.specs.Prelude.{ℕ, ◌^◌, ◌≤◌, ◌<◌, length}
-use Rattle.exchange.specs.declared.call.Answer.{Answer}
+use Rattle.exchange.specs.Calls.{Answer}
 use Rattle.exchange.specs.declared.call.Call.{Call}
 use Rattle.fields.specs.Lengths.{Narrow}
 use Rattle.lines.proofs.Lengths.{call_length, file_length, end_length}

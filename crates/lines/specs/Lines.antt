@@ -3,7 +3,7 @@
 -- Assumes nothing.
 use Rattle.std.specs.Prelude.{List, [], ◌∷◌, ◌++◌, ℕ, suc, length}
 use Rattle.traces.specs.RuleSets.{History}
-use Rattle.exchange.specs.declared.call.Answer.{Answer}
+use Rattle.exchange.specs.Calls.{Answer}
 use Rattle.exchange.specs.declared.call.Call.{Call}
 use Rattle.fields.specs.Bytes.{bytes16}
 use Rattle.fields.specs.Fields.{ascii, decimal, field, mark_text, answer_text}

@@ -2,6 +2,7 @@
 #![tactic(auto)]
 
 ghost use Rattle.std.specs.Prelude.{◌+◌, ◌<◌, ◌≤◌, length};
+ghost use Rattle.refusals.specs.Numbers.{numbered};
 ghost use Rattle.fields.specs.Placed.{Wrote};
 ghost use Rattle.lines.specs.Lines.{LONGEST, header_line, call_line, file_line, end_line};
 
@@ -25,7 +26,7 @@ pub fn write_header_line(out: &mut [u8], at: usize, mark: u16) -> usize
 // The line of a TM or ST record.
 pub fn write_call_line(out: &mut [u8], at: usize, number: u32, call: Call, answer: Answer) -> usize
     requires { at + LONGEST ≤ length out.old }
-    ensures wrote { Wrote out.old at (call_line number call answer) out.new result }
+    ensures wrote { Wrote out.old at (call_line number call (numbered answer)) out.new result }
     ensures upper_bound { number < 100000 → result ≤ at + 24 }
 {
     let number_end = write_number(out, at, number);

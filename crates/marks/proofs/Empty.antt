@@ -4,10 +4,12 @@ use Rattle.std.specs.Prelude.{◌≡◌, refl, false, ℕ, zero, suc, ◌/◌, �
 use Rattle.std.proofs.Common.{sym, ◌∙◌, arith, ne_eqb, pow_pos}
 use Rattle.std.proofs.lemmas.Nat.{ones-le}
 use Rattle.std.proofs.lemmas.List.{length-replicate}
+use Rattle.std.proofs.lemmas.List.Folds.{sum_by-replicate}
+use Rattle.std.specs.Int.Count.{ones}
 use Rattle.marks.specs.Bits.{bit}
 use Rattle.marks.proofs.Bits.{bit_past}
 use Rattle.marks.specs.Marks.{Words, mark, marked, size}
-use Rattle.marks.proofs.Size.{ones_all, ones_size}
+use Rattle.marks.proofs.Size.{ones_size}
 
 -- a list of zeros has no other number
 pub zeros : (n i : ℕ) → ◌≡◌ {A = ℕ} (get_or (replicate n 0) i 0) 0
@@ -24,10 +26,7 @@ empty_marked k i =
     rw (zeros k (i / 64))
     (ne_eqb (bit 0 (i % 64)) 1 (λ e. let z : bit 0 (i % 64) ≡ 0 = bit_past 0 0 (i % 64) (pow_pos 0) (omega arith) in omega arith))
 
-empty_ones : (k : ℕ) → ones_all (replicate k 0) ≡ 0
-unfolding ones_all
-empty_ones zero = refl
-empty_ones (suc k) = omega (arith, ones-le 0 0 (omega arith), empty_ones k)
-
 pub empty_size : (k : ℕ) → size (replicate k 0) ≡ 0
-empty_size k = sym (ones_size (empty_words k)) ∙ empty_ones k
+empty_size k =
+    let none : ones 0 ≡ 0 = omega (arith, ones-le 0 0 (omega arith)) in
+    sym (ones_size (empty_words k)) ∙ sum_by-replicate ones k 0 ∙ rw none (omega arith)

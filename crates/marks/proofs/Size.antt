@@ -1,19 +1,16 @@
 -- The number of a set's members is the number of ones of its words, summed. So adding a member makes one more, and a
 -- set of k words has at most 64 · k.
 -- Assumes nothing.
-use Rattle.std.specs.Prelude.{◌≡◌, refl, false, List, [], ◌∷◌, ℕ, zero, suc, ◌+◌, ◌*◌, ◌/◌, ◌%◌, ◌^◌, ◌<◌, ◌≤◌, length, get_or, set}
-use Rattle.std.proofs.Common.{sym, ap, ◌∙◌, add-zero, add-suc, pow-suc, le_of_suc-le-suc, not-suc-le-zero, arith}
+use Rattle.std.specs.Prelude.{◌≡◌, refl, false, List, [], ◌∷◌, ℕ, zero, suc, ◌+◌, ◌*◌, ◌/◌, ◌%◌, ◌^◌, ◌<◌, ◌≤◌, length, get_or}
+use Rattle.std.proofs.Common.{sym, ap, ◌∙◌, add-zero, add-suc, pow-suc, arith}
 use Rattle.std.specs.Int.Count.{ones, ones_step}
+use Rattle.std.specs.List.{sum_by}
 use Rattle.std.proofs.lemmas.Nat.{ones-le}
+use Rattle.std.proofs.lemmas.List.Sums.{sum_by-cons, sum_by-set}
 use Rattle.marks.specs.Bits.{bit, set_bit}
 use Rattle.marks.proofs.Bits.{bit_zero, bit_suc, set_bit_ones}
 use Rattle.marks.specs.Marks.{mark, marked, with_mark, sum, size, Words}
 use Rattle.marks.proofs.Marks.{mark_unmarked, with_words}
-
--- the ones of all words
-unfoldable pub ones_all : List ℕ → ℕ
-ones_all [] = 0
-ones_all (w ∷ ws) = ones w + ones_all ws
 
 -- ---- properties of `sum`
 
@@ -67,8 +64,7 @@ mark_later w ws i =
     let r : (64 + i) % 64 ≡ i % 64 = omega arith in
     rw (q, r)
 
-ones_sum : (ws : List ℕ) → ((k : ℕ) → get_or ws k 0 < 2 ^ 64) → ones_all ws ≡ sum (mark ws) (64 * length ws)
-unfolding ones_all
+ones_sum : (ws : List ℕ) → ((k : ℕ) → get_or ws k 0 < 2 ^ 64) → sum_by ones ws ≡ sum (mark ws) (64 * length ws)
 ones_sum [] f = sum_none (mark [])
 ones_sum (w ∷ ws) f =
     let n = 64 * length ws in
@@ -76,6 +72,7 @@ ones_sum (w ∷ ws) f =
     rw e
     (omega (
       arith,
+      sum_by-cons ones w ws,
       word_ones 64 w (f 0),
       ones_sum ws (λ k. f (suc k)),
       sum_add (mark (w ∷ ws)) 64 n,
@@ -83,23 +80,17 @@ ones_sum (w ∷ ws) f =
       sum_same (mark ws) (λ i. mark (w ∷ ws) (64 + i)) n (λ i _. mark_later w ws i),
     ))
 
-pub ones_size : {k : ℕ} {ws : List ℕ} → Words k ws → ones_all ws ≡ size ws
+pub ones_size : {k : ℕ} {ws : List ℕ} → Words k ws → sum_by ones ws ≡ size ws
 unfolding size
 ones_size {ws = ws} w = ones_sum ws w.fit
 
 -- ---- the size after adding
 
-set_ones : (ws : List ℕ) (k v : ℕ) → k < length ws → ones_all (set ws k v) + ones (get_or ws k 0) ≡ ones_all ws + ones v
-unfolding ones_all
-set_ones [] k v h = absurd (not-suc-le-zero h)
-set_ones (w ∷ ws) zero v h = omega arith
-set_ones (w ∷ ws) (suc k) v h = omega (arith, set_ones ws k v (le_of_suc-le-suc h))
-
-with_ones : (ws : List ℕ) (i : ℕ) → i < 64 * length ws → marked ws i ≡ false → ones_all (with_mark ws i) ≡ suc (ones_all ws)
+with_ones : (ws : List ℕ) (i : ℕ) → i < 64 * length ws → marked ws i ≡ false → sum_by ones (with_mark ws i) ≡ suc (sum_by ones ws)
 unfolding with_mark
 with_ones ws i h e =
     omega
-    (arith, set_ones ws (i / 64) (set_bit (get_or ws (i / 64) 0) (i % 64)) (omega arith), set_bit_ones (get_or ws (i / 64) 0) (i % 64) (mark_unmarked ws i e))
+    (arith, sum_by-set ones ws (i / 64) (set_bit (get_or ws (i / 64) 0) (i % 64)) 0 (omega arith), set_bit_ones (get_or ws (i / 64) 0) (i % 64) (mark_unmarked ws i e))
 
 -- one more, where i is not in the set yet
 pub size_with : {k : ℕ} {ws : List ℕ} → Words k ws → (i : ℕ) → i < 64 * k → marked ws i ≡ false → size (with_mark ws i) ≡ suc (size ws)
@@ -108,10 +99,9 @@ size_with {ws = ws} w i h e =
 
 -- ---- at most the width
 
-ones_all_le : (ws : List ℕ) → ((k : ℕ) → get_or ws k 0 < 2 ^ 64) → ones_all ws ≤ 64 * length ws
-unfolding ones_all
-ones_all_le [] f = omega arith
-ones_all_le (w ∷ ws) f = omega (arith, ones-le 64 w (f 0), ones_all_le ws (λ k. f (suc k)))
+ones_le : (ws : List ℕ) → ((k : ℕ) → get_or ws k 0 < 2 ^ 64) → sum_by ones ws ≤ 64 * length ws
+ones_le [] f = omega arith
+ones_le (w ∷ ws) f = omega (arith, sum_by-cons ones w ws, ones-le 64 w (f 0), ones_le ws (λ k. f (suc k)))
 
 pub size_le : {k : ℕ} {ws : List ℕ} → Words k ws → size ws ≤ 64 * k
-size_le {ws = ws} w = omega (arith, ones_all_le ws w.fit, w.len, ones_size w)
+size_le {ws = ws} w = omega (arith, ones_le ws w.fit, w.len, ones_size w)

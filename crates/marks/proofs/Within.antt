@@ -3,7 +3,8 @@
 use Rattle.std.specs.Prelude.{◌≡◌, refl, Bool, true, false, not, ◌&&◌, List, ℕ, zero, suc, ◌+◌, ◌*◌, ◌-◌, ◌<◌, ◌≤◌, length}
 use Rattle.std.proofs.Math.Bool.{and-eq-true_iff}
 use Rattle.std.proofs.Math.Decide.{ℕ_discrete, dec_lt}
-use Rattle.std.proofs.Common.{arith}
+use Rattle.std.proofs.Common.{ap, arith}
+use Rattle.std.specs.List.{list_all, range_with_len}
 use Rattle.std.proofs.lemmas.Bool.{not-true}
 use Rattle.marks.specs.Marks.{marked}
 use Rattle.marks.proofs.Marks.{marked_past}
@@ -50,19 +51,9 @@ pub is_within : (ws : List ℕ) (bound : ℕ) → Below bound ws → within ws b
 unfolding within
 is_within ws bound all = is_clear ws bound all bound (64 * length ws - bound) (omega arith)
 
--- ---- the test as a loop runs it
+-- ---- the test as the code runs it
 
-pub clear_end : (ws : List ℕ) (k : ℕ) → 512 ≤ k → clear ws k (512 - k) ≡ true
+pub clear_all : (ws : List ℕ) (k n : ℕ) → clear ws k n ≡ list_all (λ i. not (marked ws i)) (range_with_len k n)
 unfolding clear
-clear_end ws k h = let e : 512 - k ≡ 0 = omega arith in rw e
-
-pub clear_here : (ws : List ℕ) (k : ℕ) → k < 512 → marked ws k ≡ true → clear ws k (512 - k) ≡ false
-unfolding clear
-clear_here ws k h m = let e : 512 - k ≡ suc (511 - k) = omega arith in rw (e, m)
-
-pub clear_next : (ws : List ℕ) (k : ℕ) → k < 512 → marked ws k ≡ false → clear ws k (512 - k) ≡ clear ws (k + 1) (512 - (k + 1))
-unfolding clear
-clear_next ws k h m =
-    let e : 512 - k ≡ suc (511 - k) = omega arith in
-    let f : 512 - (k + 1) ≡ 511 - k = omega arith in
-    rw (e, m, f)
+clear_all ws k zero = refl
+clear_all ws k (suc n) = ap (λ b. not (marked ws k) && b) (clear_all ws (k + 1) n)

@@ -21,22 +21,17 @@ pub fn is_marked(set: &[u64], i: usize) -> bool
 pub fn has(set: [u64; 8], i: usize) -> bool
     ensures { result ≡ marked set i }
 {
-    if PLACES <= i {
-        return false;
-    }
-    is_marked(&set, i)
+    i < PLACES && is_marked(&set, i)
 }
 
 // The set with i in it; a number with no place changes nothing.
-pub fn with(set: [u64; 8], i: usize) -> [u64; 8]
+pub fn with(mut set: [u64; 8], i: usize) -> [u64; 8]
     ensures { result ≡ with_mark set i }
 {
-    if PLACES <= i {
-        return set;
+    if i < PLACES {
+        mark(&mut set, i);
     }
-    let mut s = set;
-    s[i / 64] = s[i / 64] | 1 << (i % 64);
-    s
+    set
 }
 
 // Puts i into a lent set. The caller knows that i has a place in it.
@@ -44,20 +39,14 @@ pub fn mark(set: &mut [u64], i: usize)
     requires { i < 64 * length set.old }
     ensures { set.new ≡ with_mark set.old i }
 {
-    set[i / 64] = set[i / 64] | 1 << (i % 64);
+    set[i / 64] |= 1 << (i % 64);
 }
 
 // How many numbers are in the set: the ones of its words, summed.
 pub fn members(set: [u64; 8]) -> u32
     ensures { result ≡ size set }
 {
-    let mut sum: u32 = 0;
-    let mut k: usize = 0;
-    while k < 8 {
-        sum += u64::count_ones(set[k]);
-        k += 1;
-    }
-    sum
+    set.iter().map(|word| word.count_ones()).sum()
 }
 
 // A lent set as a value. The caller knows that it has 8 words.
@@ -65,9 +54,7 @@ pub fn load(set: &[u64]) -> [u64; 8]
     requires { length set.now ≡ 8 }
     ensures { (result ≡ set.now) × Words 8 set.now }
 {
-    [
-        set[0], set[1], set[2], set[3], set[4], set[5], set[6], set[7],
-    ]
+    *set.as_array().unwrap()
 }
 
 // Writes a set by value into a lent list, from a place on. The caller knows that there is room for 8 words.
@@ -75,33 +62,19 @@ pub fn store(list: &mut [u64], at: usize, words: [u64; 8])
     requires { at + 8 ≤ length list.old }
     ensures { list.new ≡ paste list.old at words 8 }
 {
-    let mut k: usize = 0;
-    while k < 8 {
-        list[at + k] = words[k];
-        k += 1;
-    }
+    list[at..at + 8].copy_from_slice(&words);
 }
 
 // Whether the flags mark principal p: bit p is set.
 pub fn flagged(flags: u32, p: u16) -> bool
     ensures { result ≡ is_set flags p }
 {
-    if 32 <= p {
-        return false;
-    }
-    flags >> p & 1 == 1
+    p < 32 && flags >> p & 1 == 1
 }
 
 // Whether every number in the set is below the bound.
 pub fn is_within(set: [u64; 8], bound: usize) -> bool
     ensures { result ≡ within set bound }
 {
-    let mut k = bound;
-    while k < PLACES {
-        if has(set, k) {
-            return false;
-        }
-        k += 1;
-    }
-    true
+    (bound..PLACES).all(|i| !has(set, i))
 }

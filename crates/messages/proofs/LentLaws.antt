@@ -15,16 +15,16 @@ use Rattle.terms.specs.Outcome.{accept, refuse}
 use Rattle.terms.specs.Valid.{holds}
 use Rattle.terms.proofs.Valid.{holds_valid}
 use Rattle.messages.specs.Entered.{entered}
-use Rattle.messages.specs.Plan.{Plan, known, drafted, Ready, NodePlanned, with_plan}
-use Rattle.messages.proofs.PlanLaws.{empty_plan}
+use Rattle.messages.specs.declared.plan.Plan.{Plan}
+use Rattle.messages.specs.Plan.{empty_plan, known, drafted, Ready, NodePlanned, with_plan}
 use Rattle.messages.proofs.Planning.{known_length}
 use Rattle.messages.specs.Lent.{add_message_of}
 
 -- ---- the start of a plan
 
-pub start_ready : {n : ℕ} {ts : List ℕ} {count : ℕ} {draft : List Node} {words : List ℕ} → n ≤ 65536 → holds n ts count ≡ true → draft_fits n count draft ≡ true
-    → length words ≡ 32 → Ready ts count draft (empty_plan words)
-start_ready {n} {ts} {count} small h fits places =
+pub start_ready : {n : ℕ} {ts : List ℕ} {count : ℕ} {draft : List Node} → n ≤ 65536 → holds n ts count ≡ true → draft_fits n count draft ≡ true
+    → Ready ts count draft empty_plan
+start_ready {n} {ts} {count} small h fits =
     let v = holds_valid n ts count h in
     record {
       n = n;
@@ -32,14 +32,14 @@ start_ready {n} {ts} {count} small h fits places =
       table = v;
       fits = fits;
       terms = rw append-nil (terms_list v);
-      places = places;
+      places = refl;
       size = refl;
       room = omega arith;
       notes = λ j lt. rw (get_or-replicate {A = ℕ} 16 j 0 0) tt;
     }
 
 -- planning a node then is entering its message into the terms of the table
-pub start_planned : {ts : List ℕ} {count : ℕ} {draft : List Node} {k : ℕ} {words : List ℕ} {number : ℕ} {q : Plan} → NodePlanned ts count draft k (empty_plan words) number q
+pub start_planned : {ts : List ℕ} {count : ℕ} {draft : List Node} {k : ℕ} {number : ℕ} {q : Plan} → NodePlanned ts count draft k empty_plan number q
     → known ts count q ≡ entered (terms_of ts count) (drafted ts draft k)
 start_planned {ts} {count} {draft} {k} planned = planned.terms ∙ ap (λ (xs : List ℕ). entered xs (drafted ts draft k)) (append-nil (take count ts))
 
@@ -59,8 +59,8 @@ module _ (n : ℕ) (ts : List ℕ) (count : ℕ) (draft : List Node) (root : ℕ
     unfolding add_message_of
     bad_draft h e = rw (held, lt-ltb root 16 h, e)
 
-    module _ (h : root < 16) (fits : draft_fits n count draft ≡ true) {words : List ℕ} {number : ℕ} {q : Plan}
-        (planned : NodePlanned ts count draft root (empty_plan words) number q) where
+    module _ (h : root < 16) (fits : draft_fits n count draft ≡ true) {number : ℕ} {q : Plan}
+        (planned : NodePlanned ts count draft root empty_plan number q) where
       all : known ts count q ≡ entered (terms_of ts count) (drafted ts draft root)
       all = start_planned planned
 

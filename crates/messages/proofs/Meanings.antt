@@ -1,7 +1,7 @@
 -- What follows from the definitions of the same name in specs/.
 -- Assumes nothing.
 use Prim.Native.Nat.{ℕ, zero, suc, ◌<◌, ◌≤◌}
-use Rattle.std.specs.Prelude.{List, [], ◌∷◌, ◌++◌, ◌≡◌}
+use Rattle.std.specs.Prelude.{List, [], ◌∷◌, ◌++◌, ◌≡◌, Option, Some, None}
 use Rattle.std.proofs.Math.Logic.{dite}
 use Rattle.std.proofs.Math.Option.{some}
 use Rattle.std.proofs.Math.Path.{refl, sym, ap}
@@ -9,8 +9,6 @@ use Rattle.std.proofs.Common.{◌∙◌, subst, arith}
 use Rattle.std.proofs.Math.Decide.{ℕ_discrete}
 use Rattle.std.proofs.Math.Numerals.{add-one}
 use Rattle.std.proofs.Math.ListN.{length, length-append, get_or-append}
-use Rattle.terms.specs.declared.table.Found.{Found}
-use Rattle.terms.specs.declared.table.Found.TheVariants.{At, Nothing}
 use Rattle.drafts.specs.Writes.{Writes}
 use Rattle.terms.specs.Meaning.{message_at}
 use Rattle.terms.proofs.Meaning.{messages_same}
@@ -69,17 +67,17 @@ meanings_same ts ts' (suc k) e = rw (meanings_same ts ts' k (λ i h. e i (omega 
 -- ---- one term more
 
 module _ {n : ℕ} (xs : List ℕ) (v : Terms n xs (length xs)) (m : Message) where
-  absent : find_of xs (length xs) (word_in xs m) ≡ Nothing → (i : ℕ) → i < length xs → ¬ (message_at xs i ≡ m)
+  absent : find_of xs (length xs) (word_in xs m) ≡ None → (i : ℕ) → i < length xs → ¬ (message_at xs i ≡ m)
   absent f i h e = found_at xs (length xs) (word_in xs m) f i h (sym (word_at xs v i h) ∙ ap (word_in xs) e)
 
-  by_found : (f : Found) → find_of xs (length xs) (word_in xs m) ≡ f → EnteredIs n xs (with_by xs (word_in xs m) f) m
+  by_found : (f : Option ℕ) → find_of xs (length xs) (word_in xs m) ≡ f → EnteredIs n xs (with_by xs (word_in xs m) f) m
       → meanings (with_by xs (word_in xs m) f) (length (with_by xs (word_in xs m) f)) ≡ insert m (meanings xs (length xs))
   unfolding meanings
-  by_found (At i) f E =
+  by_found (Some i) f E =
       sym
       (insert_present m (meanings xs (length xs)) E.number
       (meanings_at xs (length xs) E.number E.stands.below ∙ ap some E.stands.means))
-  by_found Nothing f E = rw long (last ∙ sym (insert_new m (meanings xs (length xs)) (λ i e. let q = at_meanings xs (length xs) i m e in absent f i q.0 q.1)))
+  by_found None f E = rw long (last ∙ sym (insert_new m (meanings xs (length xs)) (λ i e. let q = at_meanings xs (length xs) i m e in absent f i q.0 q.1)))
     where
       long : length (xs ++ (word_in xs m ∷ [])) ≡ suc (length xs)
       long = length-append xs (word_in xs m ∷ []) ∙ add-one (length xs)

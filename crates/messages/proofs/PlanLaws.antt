@@ -1,6 +1,6 @@
 -- What follows from the definitions of the same name in specs/.
 -- Assumes nothing.
-use Rattle.std.specs.Prelude.{◌≡◌, get_or, replicate, set}
+use Rattle.std.specs.Prelude.{◌≡◌, get_or, replicate, set, Option, Some, None}
 use Rattle.std.proofs.Math.Path.{refl, sym, ap}
 use Rattle.std.proofs.Common.{◌∙◌, arith, length-take-le, get_or-take, take-suc-set}
 use mathlib.Core.List.{List, [], ◌∷◌, ◌++◌, append_assoc}
@@ -9,17 +9,11 @@ use Rattle.std.proofs.Math.Numerals.{add-one}
 use borrow.Author.Tests.{eq-eqb}
 use Rattle.std.proofs.Math.ListN.{length, take, length-append, length-set, get_or-append}
 use Rattle.std.proofs.Math.Seq.{get_or-append_seam}
-use Rattle.terms.specs.declared.table.Found.{Found}
-use Rattle.terms.specs.declared.table.Found.TheVariants.{At, Nothing}
 use Rattle.terms.specs.Number.{place, place_by}
 use Rattle.terms.specs.Table.{find_of}
 use Rattle.terms.proofs.TableLaws.{behind, find_append, find_same}
 use Rattle.messages.specs.Entered.{with_by, with_word}
-use Rattle.messages.specs.Plan.{Plan, as_plan, joined, WordPlanned}
-
--- nothing planned, and no node looked at
-abbrev pub empty_plan : List ℕ → Plan
-empty_plan words = as_plan words 0 (replicate 16 0)
+use Rattle.messages.specs.Plan.{joined, WordPlanned}
 
 -- ---- planning a word, by what the two searches find
 
@@ -45,22 +39,22 @@ module _ (ts : List ℕ) (count : ℕ) (words : List ℕ) (planned w : ℕ) (in_
       ∙ find_append (take count ts) (take planned words) planned w
       ∙ (rw (in_front, table_length, find_same (take planned words) words planned w (λ k h. get_or-take planned words k 0 h)))
 
-  there : (i : ℕ) → find_of (joined ts count words planned) (length (joined ts count words planned)) w ≡ At i → WordPlanned ts count words planned w i words planned
+  there : (i : ℕ) → find_of (joined ts count words planned) (length (joined ts count words planned)) w ≡ Some i → WordPlanned ts count words planned w i words planned
   unfolding with_word place
   there i e =
       record { terms = sym (ap (with_by (joined ts count words planned) w) e); number_is = sym (ap place_by e); most = omega arith; places = refl }
 
-  pub planned_before : {j : ℕ} → find_of words planned w ≡ At j → WordPlanned ts count words planned w (count + j) words planned
-  planned_before {j} e = there (count + j) (find_joined ∙ ap (λ (f : Found). behind count f (find_of ts count w)) e)
+  pub planned_before : {j : ℕ} → find_of words planned w ≡ Some j → WordPlanned ts count words planned w (count + j) words planned
+  planned_before {j} e = there (count + j) (find_joined ∙ ap (λ (f : Option ℕ). behind count f (find_of ts count w)) e)
 
-  module _ (none : find_of words planned w ≡ Nothing) where
+  module _ (none : find_of words planned w ≡ None) where
     only_table : find_of (joined ts count words planned) (length (joined ts count words planned)) w ≡ find_of ts count w
-    only_table = find_joined ∙ ap (λ (f : Found). behind count f (find_of ts count w)) none
+    only_table = find_joined ∙ ap (λ (f : Option ℕ). behind count f (find_of ts count w)) none
 
-    pub in_the_table : {i : ℕ} → find_of ts count w ≡ At i → WordPlanned ts count words planned w i words planned
+    pub in_the_table : {i : ℕ} → find_of ts count w ≡ Some i → WordPlanned ts count words planned w i words planned
     in_the_table {i} e = there i (only_table ∙ e)
 
-    pub planned_now : find_of ts count w ≡ Nothing → planned < length words
+    pub planned_now : find_of ts count w ≡ None → planned < length words
         → WordPlanned ts count words planned w (count + planned) (set words planned w) (planned + 1)
     unfolding with_word place find_of
     planned_now e room =
@@ -69,7 +63,7 @@ module _ (ts : List ℕ) (count : ℕ) (words : List ℕ) (planned w : ℕ) (in_
         ap (λ (l : List ℕ). take count ts ++ l) (rw add-one (take-suc-set words planned w room))
         ∙ sym (append_assoc (take count ts) (take planned words) (w ∷ [])) in
         let size : length (zs ++ (w ∷ [])) ≡ suc (length zs) = length-append zs (w ∷ []) ∙ add-one (length zs) in
-        let last : find_of (zs ++ (w ∷ [])) (length (zs ++ (w ∷ []))) w ≡ At (length zs) =
+        let last : find_of (zs ++ (w ∷ [])) (length (zs ++ (w ∷ []))) w ≡ Some (length zs) =
         rw (size, eq-eqb (get_or (zs ++ (w ∷ [])) (length zs) 0) w (get_or-append_seam zs w [] 0)) in
         record {
           terms = longer ∙ sym (ap (with_by zs w) (only_table ∙ e));

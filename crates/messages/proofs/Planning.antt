@@ -1,7 +1,7 @@
 -- Planning a node, by what its layer is: each way out of the recursion keeps the plan ready, and what it plans is the
 -- node's message, entered.
 -- Assumes nothing.
-use Rattle.std.specs.Prelude.{◌≡◌, refl, ℕ, zero, suc, ◌+◌, ◌-◌, ◌<◌, ◌≤◌, length, get_or, take}
+use Rattle.std.specs.Prelude.{◌≡◌, refl, ℕ, zero, suc, ◌+◌, ◌-◌, ◌<◌, ◌≤◌, length, get_or, take, Option, Some, None}
 use Rattle.std.proofs.Common.{sym, ◌∙◌, add-one, arith, length-append, length-set, length-take-le, get_or-take, get_or-set_same, get_or-set_other}
 use Rattle.std.proofs.Math.Path.{ap, subst}
 use Rattle.std.proofs.Math.Logic.{dite}
@@ -11,8 +11,6 @@ use Rattle.std.proofs.Math.ListN.{get_or-append}
 use Rattle.drafts.specs.declared.Layer.{Layer}
 use Rattle.drafts.specs.declared.Layer.TheVariants as layer
 use Rattle.drafts.specs.declared.Node.{Node}
-use Rattle.terms.specs.declared.table.Found.{Found}
-use Rattle.terms.specs.declared.table.Found.TheVariants.{At, Nothing}
 use Rattle.words.specs.declared.Term.TheVariants.{Pair, Encrypted}
 use Rattle.drafts.specs.Draft.{node_at, layer_of}
 use Rattle.drafts.proofs.Draft.{fits_at, draft_at}
@@ -28,7 +26,8 @@ use Rattle.terms.specs.Valid.{Terms}
 use Rattle.words.specs.Word.{word_of}
 use Rattle.messages.specs.Entered.{with_word, with_term, entered}
 use Rattle.messages.proofs.Layers.{noted_le, noted_room, noted_set, note_longer, joined_small, at_number, Atomic, LayerIs, layer_is, pair_word, encrypted_word}
-use Rattle.messages.specs.Plan.{Plan, as_plan, joined, known, drafted, NoteIs, Ready, WordPlanned, NodePlanned, note_in}
+use Rattle.messages.specs.declared.plan.Plan.{Plan}
+use Rattle.messages.specs.Plan.{as_plan, joined, known, drafted, NoteIs, Ready, WordPlanned, NodePlanned, note_in}
 use Rattle.messages.proofs.PlanLaws.{joined_length}
 use Rattle.messages.specs.Standing.{Standing}
 use Rattle.messages.proofs.Standing.{EnteredIs, Longer, longer_trans, longer_with, longer_entered, standing_longer, standing_number, key_entered, entered_is, entered_present}
@@ -137,9 +136,9 @@ room_left {p = p} R k hk e = omega (arith, R.room, R.size, noted_room p.numbers 
 pub known_length : {ts : List ℕ} {count : ℕ} {draft : List Node} {p : Plan} → Ready ts count draft p → length (known ts count p) ≡ count + p.count
 known_length {ts} {count} {p = p} R = joined_length ts count p.words p.count 0 (omega (arith, R.table.size, R.table.room)) (omega (arith, few R, R.places))
 
-place_le : (xs : List ℕ) (w : ℕ) (f : Found) → FoundIs xs (length xs) w f → place_by f ≤ length xs
-place_le xs w (At i) h = omega (arith, h.0)
-place_le xs w Nothing h = omega arith
+place_le : (xs : List ℕ) (w : ℕ) (f : Option ℕ) → FoundIs xs (length xs) w f → place_by f ≤ length xs
+place_le xs w (Some i) h = omega (arith, h.0)
+place_le xs w None h = omega arith
 
 pub number_small : {ts : List ℕ} {count : ℕ} {words : List ℕ} {planned w number : ℕ} {words' : List ℕ} {planned' : ℕ}
     → WordPlanned ts count words planned w number words' planned' → count ≤ 512 → planned < 32 → number < 65535

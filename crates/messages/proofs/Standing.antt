@@ -1,12 +1,10 @@
 -- What follows from the definitions of the same name in specs/.
 -- Assumes nothing.
-use Rattle.std.specs.Prelude.{◌≡◌, List, [], ◌∷◌, ◌++◌, ℕ, suc, ◌<◌, ◌≤◌, length, get_or}
+use Rattle.std.specs.Prelude.{◌≡◌, List, [], ◌∷◌, ◌++◌, ℕ, suc, ◌<◌, ◌≤◌, length, get_or, Option, Some, None}
 use Rattle.std.proofs.Math.Path.{refl, ap₂}
 use Rattle.std.proofs.Common.{sym, ap, ◌∙◌, subst, le_refl, add-one, arith, length-append}
 use Rattle.std.proofs.Math.ListN.{get_or-append}
 use Rattle.std.proofs.Math.Seq.{get_or-append_seam}
-use Rattle.terms.specs.declared.table.Found.{Found}
-use Rattle.terms.specs.declared.table.Found.TheVariants.{At, Nothing}
 use Rattle.words.specs.declared.Term.{Term}
 use Rattle.words.specs.declared.Term.TheVariants.{Principal, Time, Nonce, LongTermKey, SessionKey, Pair, Encrypted, Unknown}
 use Rattle.drafts.specs.Writes.{KeyFits, Writes}
@@ -56,9 +54,9 @@ word_passes n ts at t h f =
 -- ---- one word more
 
 -- a word that is there changes nothing
-with_found : (xs : List ℕ) (w i : ℕ) → i < length xs → get_or xs i 0 ≡ w → (f : Found) → FoundIs xs (length xs) w f → with_by xs w f ≡ xs
-with_found xs w i h e (At j) p = refl
-with_found xs w i h e Nothing p = absurd (p i h e)
+with_found : (xs : List ℕ) (w i : ℕ) → i < length xs → get_or xs i 0 ≡ w → (f : Option ℕ) → FoundIs xs (length xs) w f → with_by xs w f ≡ xs
+with_found xs w i h e (Some j) p = refl
+with_found xs w i h e None p = absurd (p i h e)
 
 pub with_present : (xs : List ℕ) (w i : ℕ) → i < length xs → get_or xs i 0 ≡ w → with_word xs w ≡ xs
 unfolding with_word
@@ -75,11 +73,11 @@ standing_by {ys = ys} v t h i lt e m q =
 
 module _ {n : ℕ} (xs : List ℕ) (v : Terms n xs (length xs)) (t : Term) (h : Packs t) (f : Fields n xs (length xs) t) (m : Message)
     (means : (ys : List ℕ) → Extends n xs (length xs) ys (length ys) → message_of (message_at ys) t ≡ m) where
-  put_found : (o : Found) → find_of xs (length xs) (word_of t) ≡ o → EnteredIs n xs (with_by xs (word_of t) o) m
-  put_found (At i) e =
+  put_found : (o : Option ℕ) → find_of xs (length xs) (word_of t) ≡ o → EnteredIs n xs (with_by xs (word_of t) o) m
+  put_found (Some i) e =
       let p = found_at xs (length xs) (word_of t) e in
       record { extends = extends_refl v; number = i; stands = standing_by v t h i p.0 p.1 m (means xs (extends_refl v)) }
-  put_found Nothing e =
+  put_found None e =
       let ys = xs ++ (word_of t ∷ []) in
       let long : length ys ≡ suc (length xs) = length-append xs (word_of t ∷ []) ∙ add-one (length xs) in
       let here : get_or ys (length xs) 0 ≡ word_of t = get_or-append_seam xs (word_of t) [] 0 in
@@ -105,9 +103,9 @@ pub longer_trans : {xs ys zs : List ℕ} → Longer xs ys → Longer ys zs → L
 longer_trans f g =
     record { more = omega (arith, f.more, g.more); agree = λ k h. f.agree k h ∙ g.agree k (omega (arith, f.more)) }
 
-longer_by : (xs : List ℕ) (w : ℕ) (f : Found) → Longer xs (with_by xs w f)
-longer_by xs w (At i) = longer_refl xs
-longer_by xs w Nothing =
+longer_by : (xs : List ℕ) (w : ℕ) (f : Option ℕ) → Longer xs (with_by xs w f)
+longer_by xs w (Some i) = longer_refl xs
+longer_by xs w None =
     record { more = omega (arith, length-append xs (w ∷ [])); agree = λ k h. sym (get_or-append xs (w ∷ []) 0 k h) }
 
 pub longer_with : (xs : List ℕ) (w : ℕ) → Longer xs (with_word xs w)

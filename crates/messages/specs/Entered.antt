@@ -2,16 +2,14 @@
 -- after its parts, left before right, body before key"). The list is unbounded here: whether it fits is asked afterwards,
 -- so that a message is added entire or not at all.
 -- Assumes nothing.
-use Rattle.std.specs.Prelude.{List, [], ◌∷◌, ◌++◌, ℕ, length}
-use Rattle.terms.specs.declared.table.Found.{Found}
-use Rattle.terms.specs.declared.table.Found.TheVariants.{At, Nothing}
+use Rattle.std.specs.Prelude.{List, [], ◌∷◌, ◌++◌, ℕ, length, Option, Some, None}
 use Rattle.terms.specs.Message.{Message, principal, time, nonce, key, pair, encrypted}
 use Rattle.terms.specs.Number.{word_in}
 use Rattle.terms.specs.Table.{find_of}
 
-abbrev pub with_by : List ℕ → ℕ → Found → List ℕ
-with_by xs w (At i) = xs
-with_by xs w Nothing = xs ++ (w ∷ [])
+abbrev pub with_by : List ℕ → ℕ → Option ℕ → List ℕ
+with_by xs w (Some i) = xs
+with_by xs w None = xs ++ (w ∷ [])
 
 -- "adding one that is present .. changes nothing"
 unfoldable pub with_word : List ℕ → ℕ → List ℕ

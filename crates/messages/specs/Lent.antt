@@ -1,12 +1,13 @@
 -- The answer of `add_message`, and the table after it. A message is added entire or not at all: how many terms are new is
 -- read off `entered`, which knows no limit, and 20 is given exactly where they do not all fit in 512.
 -- Assumes nothing.
-use Rattle.std.specs.Prelude.{◌&&◌, cond, ℕ, ltb, leb, length}
+use Rattle.std.specs.Prelude.{◌&&◌, cond, Result, Ok, Err, ℕ, ltb, leb, length}
 use mathlib.Core.List.{List, ◌++◌}
 use Rattle.std.proofs.Math.ListN.{drop}
 use Rattle.drafts.specs.declared.Node.{Node}
 use Rattle.messages.specs.declared.lent.Stored.{Stored}
-use Rattle.messages.specs.declared.lent.Stored.TheVariants.{At, Refused}
+use Rattle.refusals.specs.declared.Refusal.{Refusal}
+use Rattle.refusals.specs.Numbers.{number}
 use Rattle.drafts.specs.Draft.{draft_message, draft_fits}
 use Rattle.terms.specs.Meaning.{message_at}
 use Rattle.terms.specs.Message.{Message}
@@ -18,9 +19,9 @@ use Rattle.messages.specs.Entered.{entered}
 -- ---- definitions
 
 -- what the code's answer comes to
-abbrev pub store_outcome : Stored → (count : ℕ) → List ℕ → TermOutcome
-store_outcome (At i count') count ts = accept i count' ts
-store_outcome (Refused r) count ts = refuse r count ts
+abbrev pub store_outcome : Result Stored Refusal → (count : ℕ) → List ℕ → TermOutcome
+store_outcome (Ok stored) count ts = accept stored.number stored.count ts
+store_outcome (Err r) count ts = refuse (number r) count ts
 
 -- a list of terms, with the places of ts past it
 abbrev pub over : List ℕ → List ℕ → List ℕ

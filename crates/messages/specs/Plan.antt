@@ -2,7 +2,7 @@
 -- The terms that are known are those of the table and those planned; each step of the planning keeps the equation
 -- between them and `entered`.
 -- Assumes nothing.
-use Rattle.std.specs.Prelude.{◌≡◌, true, get_or, drop, set}
+use Rattle.std.specs.Prelude.{◌≡◌, true, get_or, drop, set, replicate}
 use mathlib.Core.List.{List, [], ◌∷◌, ◌++◌}
 use Prim.Native.Nat.{ℕ, zero, suc, ◌+◌, ◌*◌, ◌<◌, ◌≤◌}
 use Rattle.std.proofs.Math.ListN.{length, take}
@@ -14,19 +14,18 @@ use Rattle.terms.specs.Number.{place, number_in}
 use Rattle.terms.specs.Valid.{Terms, Valid}
 use Rattle.messages.specs.Entered.{with_word, entered}
 use Rattle.messages.specs.Standing.{Standing}
+use Rattle.messages.specs.declared.plan.Plan.{Plan}
 
 -- ---- definitions
 
 -- the words to put behind the terms, the first `count` of `words`; and for each node of the draft that has been looked
 -- at, the number of its term and one, else 0
-pub record Plan : Type 0 where
-  pub words : List ℕ
-  pub count : ℕ
-  pub numbers : List ℕ
-
--- a plan of what the code lends
 abbrev pub as_plan : (words : List ℕ) (count : ℕ) (numbers : List ℕ) → Plan
 as_plan words count numbers = record { words = words; count = count; numbers = numbers }
+
+-- nothing planned, and no node looked at
+abbrev pub empty_plan : Plan
+empty_plan = as_plan (replicate 32 0) 0 (replicate 16 0)
 
 -- the terms of the table, and the words planned
 abbrev pub joined : (ts : List ℕ) (count : ℕ) (words : List ℕ) (planned : ℕ) → List ℕ

@@ -3,17 +3,17 @@
 ghost use Rattle.std.specs.Prelude.{◌≡◌};
 ghost use Rattle.messages.specs.Lent.{store_outcome, add_message_of};
 
-use super::plan::{plan_node, write_plan};
+use super::plan::{Plan, write_plan};
 use drafts::{NODES, Node, draft_fits};
 use lent_terms::holds_together;
-use terms::rules::{REFUSE_FULL, REFUSE_RANGE, REFUSE_TABLES};
+use refusals::Refusal;
 use terms::table::MAX_TERMS;
 
-#[derive(Clone, Copy)]
-pub enum Stored {
-    // The message's number, and how many terms the table now has.
-    At(u16, usize),
-    Refused(u8),
+// The number of a message that was added, and how many terms the table has with it.
+#[derive(Clone, Copy, Debug, PartialEq, Eq)]
+pub struct Stored {
+    pub number: u16,
+    pub count: usize,
 }
 
 // Adds the message of a draft's node: all its terms, or none.
@@ -23,25 +23,24 @@ pub fn add_message(
     n: u16,
     draft: [Node; 16],
     root: usize,
-) -> Stored
+) -> Result<Stored, Refusal>
     ensures { store_outcome result count terms.new ≡ add_message_of n terms.old count draft root }
 {
     if !holds_together(terms, count, n) {
-        return Stored::Refused(REFUSE_TABLES);
+        return Err(Refusal::Tables);
     }
     if NODES <= root {
-        return Stored::Refused(REFUSE_RANGE);
+        return Err(Refusal::Range);
     }
     if !draft_fits(draft, n, count) {
-        return Stored::Refused(REFUSE_RANGE);
+        return Err(Refusal::Range);
     }
-    let mut words = [0u64; 32];
-    let mut numbers = [0u16; 16];
-    let planned = plan_node(terms, count, draft, root, &mut words, &mut numbers, 0);
-    let all = count + planned.count;
+    let mut plan = Plan::new();
+    let number = plan.add_node(terms, count, draft, root);
+    let all = count + plan.count;
     if MAX_TERMS < all {
-        return Stored::Refused(REFUSE_FULL);
+        return Err(Refusal::TermsFull);
     }
-    write_plan(terms, count, &words, planned.count);
-    Stored::At(planned.number, all)
+    write_plan(terms, count, &plan.words, plan.count);
+    Ok(Stored { number, count: all })
 }

@@ -21,20 +21,10 @@ use Rattle.raw_records.specs.Capped.{capped, wide_refusal}
 abbrev pub capped_fields : (step run a b m t : ℕ) → Step
 capped_fields step run a b m t = step_fields (capped 255 step) (capped 255 run) (capped 255 a) (capped 255 b) (capped 65535 m) t
 
-module _ (run m : ℕ) where
-  pub not_wide : (ltb run 256 && ltb m 65536) ≡ true → 0 ≡ wide_refusal run m
-  not_wide e = rw e
-
-  pub too_wide : (ltb run 256 && ltb m 65536) ≡ false → 6 ≡ wide_refusal run m
-  too_wide e = rw e
-
 -- ---- tests of a number and of what it is capped to
 
 module _ (most x : ℕ) where
-  pub capped_large : most < x → most ≡ capped most x
-  capped_large h = rw (lt-ltb most x h)
-
-  pub capped_small : x ≤ most → x ≡ capped most x
+  capped_small : x ≤ most → x ≡ capped most x
   capped_small h = rw (le-ltb most x h)
 
   zero_same : 0 < most → eqb (capped most x) 0 ≡ eqb x 0

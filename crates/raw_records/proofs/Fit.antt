@@ -1,6 +1,6 @@
 -- What follows from the definitions of the same name in specs/.
 -- Assumes nothing.
-use Rattle.std.specs.Prelude.{◌≡◌, refl, Bool, true, false, ◌&&◌, ◌||◌, cond, ℕ, ◌+◌, ◌^◌, ◌<◌, ◌≤◌, ltb, eqb, drop}
+use Rattle.std.specs.Prelude.{◌≡◌, refl, Bool, true, false, ◌&&◌, ◌||◌, cond, ℕ, ◌+◌, ◌^◌, ◌<◌, ◌≤◌, ltb, eqb, drop, Option, Some, None}
 use Rattle.std.proofs.Math.Bool.{and-eq-true_iff}
 use mathlib.Core.List.{List, [], ◌∷◌}
 use Rattle.std.proofs.Common.{arith, ltb-true, ltb-false, eqb-true, get_or-drop}
@@ -12,7 +12,7 @@ use Rattle.realm.specs.Input.{uses_of}
 use Rattle.realm.proofs.InputLaws.{passed}
 use Rattle.records.specs.Records.{term_mark, step_mark}
 use Rattle.raw_records.specs.declared.raw.RawRecord.{RawRecord}
-use Rattle.raw_records.specs.declared.raw.RawRecord.TheVariants.{Term, Step, Unknown}
+use Rattle.raw_records.specs.declared.raw.RawRecord.TheVariants.{Term, Step}
 use Rattle.raw_records.specs.Raw.{raw_by, records_of}
 use Rattle.raw_records.specs.Refusals.{uses_right, limit_of, term_refusal, roomy, step_fields, step_refusal, own_refusal, records_refusal}
 use Rattle.raw_records.proofs.Refusals.{first_zero}
@@ -35,7 +35,7 @@ three false false c e = absurd (omega arith)
 three false true false e = absurd (omega arith)
 three false true true e = (refl, refl)
 
-term_fits : (n kind l r : ℕ) → n < 2 ^ 8 → term_refusal n kind l r ≡ 0 → RawSized (Term kind l r)
+term_fits : (n kind l r : ℕ) → n < 2 ^ 8 → term_refusal n kind l r ≡ 0 → RawSized (Some (Term kind l r))
 unfolding term_refusal
 term_fits n kind l r h e =
     let t = three (ltb 6 kind) (uses_right kind || eqb r 0) (ltb l (limit_of n kind) && ltb r 65536) e in
@@ -51,7 +51,7 @@ field_below : (used : Bool) (x limit : ℕ) → 0 < limit → (used || eqb x 0) 
 field_below true x limit p e f = f refl
 field_below false x limit p e f = let z = eqb-true x 0 e in omega arith
 
-step_fits : (n step run a b m t : ℕ) → n < 2 ^ 8 → t < 2 ^ 32 → step_refusal n step run a b m t ≡ 0 → RawSized (Step step run a b m t)
+step_fits : (n step run a b m t : ℕ) → n < 2 ^ 8 → t < 2 ^ 32 → step_refusal n step run a b m t ≡ 0 → RawSized (Some (Step step run a b m t))
 step_fits n step run a b m t small last e =
     let u : Uses = uses_of step in
     let p = passed (roomy n) (step_fields step run a b m t) e in
@@ -71,12 +71,12 @@ module _ (n : ℕ) (small : n < 2 ^ 8) where
   record_fits : (mark u v w x y z : ℕ) → z < 2 ^ 32 → own_refusal n (raw_by mark u v w x y z) ≡ 0 → RawSized (raw_by mark u v w x y z)
   unfolding raw_by own_refusal
   record_fits mark u v w x y z h =
-      cond_elim (λ (raw : RawRecord). own_refusal n raw ≡ 0 → RawSized raw) (eqb mark term_mark) (Term u v w) (cond (eqb mark step_mark) (Step u v w x y z) Unknown)
+      cond_elim (λ (raw : Option RawRecord). own_refusal n raw ≡ 0 → RawSized raw) (eqb mark term_mark) (Some (Term u v w)) (cond (eqb mark step_mark) (Some (Step u v w x y z)) None)
       (λ _ e. term_fits n u v w small e)
-      (λ _. cond_elim (λ (raw : RawRecord). own_refusal n raw ≡ 0 → RawSized raw) (eqb mark step_mark) (Step u v w x y z) Unknown
+      (λ _. cond_elim (λ (raw : Option RawRecord). own_refusal n raw ≡ 0 → RawSized raw) (eqb mark step_mark) (Some (Step u v w x y z)) None
       (λ _ e. step_fits n u v w x y z small h e) (λ _ e. absurd (omega arith)))
 
-  cut : {A : Type 0} → records_refusal n (Unknown ∷ []) ≡ 0 → A
+  cut : {A : Type 0} → records_refusal n (None ∷ []) ≡ 0 → A
   unfolding own_refusal
   cut e = absurd (omega arith)
 

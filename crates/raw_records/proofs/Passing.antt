@@ -1,6 +1,6 @@
 -- Going through the records one by one: what is left of them, and of their refusals, after i of them.
 -- Assumes nothing.
-use Rattle.std.specs.Prelude.{◌≡◌, List, ℕ, ◌+◌, ◌*◌, ◌<◌, ◌≤◌, length, drop}
+use Rattle.std.specs.Prelude.{◌≡◌, List, ℕ, ◌+◌, ◌*◌, ◌<◌, ◌≤◌, length, drop, Option}
 use Rattle.std.proofs.Common.{sym, ◌∙◌, arith}
 use Rattle.std.proofs.Math.Path.{ap}
 use Rattle.std.proofs.Math.ListN.{length-drop}
@@ -11,7 +11,7 @@ use Rattle.raw_records.specs.Refusals.{first, own_refusal, records_refusal}
 use Rattle.raw_records.proofs.Refusals.{first_some}
 
 -- the records that are left after i of them
-abbrev pub records_from : List ℕ → ℕ → List RawRecord
+abbrev pub records_from : List ℕ → ℕ → List (Option RawRecord)
 records_from words i = records_of (drop (i * 7) words)
 
 module _ (n : ℕ) (words : List ℕ) (i : ℕ) where

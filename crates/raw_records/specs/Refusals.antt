@@ -1,12 +1,12 @@
 -- What turns a record away by its own fields, "what depends on the walk's runs and terms apart": refusals 3 to 6.
 -- Assumes nothing.
-use Rattle.std.specs.Prelude.{Bool, ◌&&◌, ◌||◌, cond, List, [], ◌∷◌, map, ℕ, zero, suc}
+use Rattle.std.specs.Prelude.{Bool, ◌&&◌, ◌||◌, cond, List, [], ◌∷◌, map, ℕ, zero, suc, Option, Some, None}
 use Rattle.std.proofs.Math.Dec.{ltb, eqb}
 use Rattle.realm.specs.declared.header.Realm.{Realm}
 use Rattle.realm.specs.declared.input.Step as fields
 use Rattle.realm.specs.Input.{input_refusal}
 use Rattle.raw_records.specs.declared.raw.RawRecord.{RawRecord}
-use Rattle.raw_records.specs.declared.raw.RawRecord.TheVariants.{Term, Step, Unknown}
+use Rattle.raw_records.specs.declared.raw.RawRecord.TheVariants.{Term, Step}
 
 -- "the first that applies is given": the first number that is not 0
 abbrev pub first : ℕ → ℕ → ℕ
@@ -47,11 +47,11 @@ step_refusal n step run a b m t = input_refusal (roomy n) (step_fields step run 
 -- ---- a record
 
 -- 3 "a mark other than TM or ST after the first record, or a record cut short"
-unfoldable pub own_refusal : (n : ℕ) → RawRecord → ℕ
-own_refusal n (Term kind l r) = term_refusal n kind l r
-own_refusal n (Step step run a b m t) = step_refusal n step run a b m t
-own_refusal n Unknown = 3
+unfoldable pub own_refusal : (n : ℕ) → Option RawRecord → ℕ
+own_refusal n (Some (Term kind l r)) = term_refusal n kind l r
+own_refusal n (Some (Step step run a b m t)) = step_refusal n step run a b m t
+own_refusal n None = 3
 
 -- the first record that is turned away decides
-abbrev pub records_refusal : (n : ℕ) → List RawRecord → ℕ
+abbrev pub records_refusal : (n : ℕ) → List (Option RawRecord) → ℕ
 records_refusal n raws = first_of (map (own_refusal n) raws)

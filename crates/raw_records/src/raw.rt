@@ -24,32 +24,30 @@ pub enum RawRecord {
         m: u32,
         t: u32,
     },
-    // another mark
-    Unknown,
 }
 
-// The record whose words begin at `at`.
-pub fn raw_at(words: &[u32], at: usize) -> RawRecord
+// The record whose words begin at `at`; none where its mark is another.
+pub fn raw_at(words: &[u32], at: usize) -> Option<RawRecord>
     requires { at + 7 ≤ length words.now }
     ensures { result ≡ raw_at words.now at }
 {
     let mark = words[at];
     if mark == TERM_MARK as u32 {
-        return RawRecord::Term {
+        return Some(RawRecord::Term {
             kind: words[at + 1],
             l: words[at + 2],
             r: words[at + 3],
-        };
+        });
     }
     if mark == STEP_MARK as u32 {
-        return RawRecord::Step {
+        return Some(RawRecord::Step {
             step: words[at + 1],
             run: words[at + 2],
             a: words[at + 3],
             b: words[at + 4],
             m: words[at + 5],
             t: words[at + 6],
-        };
+        });
     }
-    RawRecord::Unknown
+    None
 }

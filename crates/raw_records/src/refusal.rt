@@ -1,14 +1,15 @@
 // What turns a record away by its own fields: refusals 3 to 6.
 ghost use Rattle.std.specs.Prelude.{◌≡◌};
+ghost use Rattle.refusals.specs.Numbers.{number_of};
 ghost use Rattle.raw_records.specs.Raw.{records_of};
-ghost use Rattle.raw_records.specs.Refusals.{first, limit_of, term_refusal, step_refusal, own_refusal, records_refusal};
+ghost use Rattle.raw_records.specs.Refusals.{limit_of, term_refusal, step_refusal, own_refusal, records_refusal};
 ghost use Rattle.raw_records.specs.Capped.{capped, wide_refusal};
 
 use super::raw::{RECORD_WORDS, RawRecord, raw_at};
 use realm::header::Realm;
-use realm::input::{Step, input_refusal};
-use records::record::REFUSE_RECORD;
-use terms::rules::{LAST_NUMBER, REFUSE_KIND, REFUSE_RANGE, REFUSE_UNUSED};
+use realm::input::{Step, check_input};
+use refusals::Refusal;
+use terms::rules::LAST_NUMBER;
 use words::{ENCRYPTED, LONG_TERM_KEY, NONCE, PAIR, PRINCIPAL, SESSION_KEY, TIME};
 
 // One more than the last nonce and session key.
@@ -19,77 +20,60 @@ const BYTES_1: u32 = 256;
 
 const BYTES_2: u32 = 65536;
 
-// The first of two refusals.
-pub fn first(a: u8, b: u8) -> u8
-    ensures { result ≡ first a b }
-{
-    if a == 0 {
-        return b;
-    }
-    a
-}
-
 // The first L that is out of range.
 fn limit_of(n: u8, kind: u64) -> u32
     ensures { result ≡ limit_of n kind }
 {
-    if (kind == PRINCIPAL) | (kind == LONG_TERM_KEY) {
-        return n as u32;
+    match kind {
+        PRINCIPAL | LONG_TERM_KEY => n as u32,
+        NONCE | SESSION_KEY => NUMBERS,
+        _ => BYTES_2,
     }
-    if (kind == NONCE) | (kind == SESSION_KEY) {
-        return NUMBERS;
-    }
-    BYTES_2
 }
 
-fn term_refusal(n: u8, kind: u64, l: u32, r: u32) -> u8
-    ensures { result ≡ term_refusal n kind l r }
+#[tactic(auto, unfolding(crate::specs::Refusals::term_refusal))]
+fn check_term(n: u8, kind: u64, l: u32, r: u32) -> Result<(), Refusal>
+    ensures { number_of result ≡ term_refusal n kind l r }
 {
     if ENCRYPTED < kind {
-        return REFUSE_KIND;
+        return Err(Refusal::Kind);
     }
-    if !((kind == TIME) | (kind == PAIR) | (kind == ENCRYPTED) | (r == 0)) {
-        return REFUSE_UNUSED;
+    if !(kind == TIME || kind == PAIR || kind == ENCRYPTED || r == 0) {
+        return Err(Refusal::Unused);
     }
-    if (l < limit_of(n, kind)) & (r < BYTES_2) {
-        return 0;
+    if l < limit_of(n, kind) && r < BYTES_2 {
+        return Ok(());
     }
-    REFUSE_RANGE
+    Err(Refusal::Range)
 }
 
 // A word, or the largest byte.
 fn cap8(x: u32) -> u8
     ensures { result ≡ capped 255 x }
 {
-    if 255 < x {
-        return 255;
-    }
-    x as u8
+    u8::try_from(x).unwrap_or(u8::MAX)
 }
 
 // A word, or the largest number of two bytes.
 fn cap16(x: u32) -> u16
     ensures { result ≡ capped 65535 x }
 {
-    if 65535 < x {
-        return 65535;
-    }
-    x as u16
+    u16::try_from(x).unwrap_or(u16::MAX)
 }
 
 // A run or a term that no field can name.
-fn wide_refusal(run: u32, m: u32) -> u8
-    ensures { result ≡ wide_refusal run m }
+fn check_width(run: u32, m: u32) -> Result<(), Refusal>
+    ensures { number_of result ≡ wide_refusal run m }
 {
-    if (run < BYTES_1) & (m < BYTES_2) {
-        return 0;
+    if run < BYTES_1 && m < BYTES_2 {
+        return Ok(());
     }
-    REFUSE_RANGE
+    Err(Refusal::Range)
 }
 
 // The step's own rules, in a realm with every run and term that a record can name.
-fn step_refusal(n: u8, step: u32, run: u32, a: u32, b: u32, m: u32, t: u32) -> u8
-    ensures { result ≡ step_refusal n step run a b m t }
+fn check_step(n: u8, step: u32, run: u32, a: u32, b: u32, m: u32, t: u32) -> Result<(), Refusal>
+    ensures { number_of result ≡ step_refusal n step run a b m t }
 {
     let s = Step {
         step: cap8(step),
@@ -110,41 +94,40 @@ fn step_refusal(n: u8, step: u32, run: u32, a: u32, b: u32, m: u32, t: u32) -> u
         runs: 256,
         entries: 0,
     };
-    first(input_refusal(h, s), wide_refusal(run, m))
+    check_input(h, s)?;
+    check_width(run, m)
 }
 
-fn own_refusal(n: u8, raw: RawRecord) -> u8
-    ensures { result ≡ own_refusal n raw }
+#[tactic(auto, unfolding(crate::specs::Refusals::own_refusal))]
+fn check_record(n: u8, raw: Option<RawRecord>) -> Result<(), Refusal>
+    ensures { number_of result ≡ own_refusal n raw }
 {
     match raw {
-        RawRecord::Term { kind, l, r } => term_refusal(n, kind as u64, l, r),
-        RawRecord::Step {
-            step,
-            run,
-            a,
-            b,
-            m,
-            t,
-        } => step_refusal(n, step, run, a, b, m, t),
-        RawRecord::Unknown => REFUSE_RECORD,
+        Some(RawRecord::Term { kind, l, r }) => check_term(n, kind as u64, l, r),
+        Some(
+            RawRecord::Step {
+                step,
+                run,
+                a,
+                b,
+                m,
+                t,
+            },
+        ) => check_step(n, step, run, a, b, m, t),
+        None => Err(Refusal::Record),
     }
 }
 
-// The first record that is turned away; one cut short comes last.
-pub fn records_refusal(words: &[u32], n: u8) -> u8
-    ensures { result ≡ records_refusal n (records_of words.now) }
+// Whether all records pass, or the refusal of the first that does not; one cut short comes last.
+pub fn check_records(words: &[u32], n: u8) -> Result<(), Refusal>
+    ensures { number_of result ≡ records_refusal n (records_of words.now) }
 {
     let count = words.len() / RECORD_WORDS;
-    let mut i: usize = 0;
-    while i < count {
-        let refusal = own_refusal(n, raw_at(words, i * RECORD_WORDS));
-        if refusal != 0 {
-            return refusal;
-        }
-        i += 1;
+    for i in 0..count {
+        check_record(n, raw_at(words, i * RECORD_WORDS))?;
     }
     if words.len() % RECORD_WORDS != 0 {
-        return REFUSE_RECORD;
+        return Err(Refusal::Record);
     }
-    0
+    Ok(())
 }

@@ -1,15 +1,16 @@
 -- What follows from the definitions of the same name in specs/.
 -- Assumes nothing.
-use Rattle.std.specs.Prelude.{ℕ, ◌<◌, ◌≤◌, ◌≡◌, false, ◌&&◌, List, ltb, leb, eqb, length, get_or}
-use Rattle.std.proofs.Common.{sym, ◌∙◌}
-use borrow.Author.Tests.{le-leb, lt-leb, leb-true, ltb-true, lt-ltb, eq-eqb, ne_eqb, eqb-true}
+use Rattle.std.specs.Prelude.{ℕ, ◌<◌, ◌≤◌, ◌≡◌, Bool, false, List, ltb, leb, eqb, length, get_or, take, MatchBool, HoldsAt}
+use Rattle.std.specs.List.{AllWithin}
+use Rattle.std.proofs.Common.{sym, ◌∙◌, arith, length-take-le}
+use Rattle.std.proofs.lemmas.List.{get_or-take}
+use borrow.Author.Tests.{le-leb, lt-leb, leb-true, ltb-true, lt-ltb, eq-eqb, eqb-true}
 use Rattle.std.proofs.Math.Bool.{true, and-eq-true_iff}
 use Rattle.marks.specs.Marks.{marked}
 use Rattle.marks.specs.Within.{within}
 use Rattle.marks.proofs.Within.{within_is, is_within}
 use Rattle.terms.specs.Valid.{holds}
 use Rattle.terms.proofs.Valid.{holds_valid, valid_holds}
-use Rattle.terms.specs.AllOf.{each}
 use Rattle.terms.proofs.AllOf.{each_true, true_each, five}
 use Rattle.runs.proofs.Promises.{rows_decided}
 use Rattle.terms.proofs.Choice.{no_true, is_false}
@@ -28,15 +29,26 @@ module _ (n : ℕ) (cache : List Entry) (count : ℕ) where
   unfolding entries_hold
   over_limit h = rw (lt-leb count 16 h)
 
-  pub misfit : (i : ℕ) → i < count → entry_fits n (get_or cache i empty) ≡ false → false ≡ entries_hold n cache count
-  unfolding entries_hold
-  misfit i h e =
-      is_false (leb count 16 && each (λ i. entry_fits n (get_or cache i empty)) count)
-      (λ q. no_true (sym e ∙ each_true (λ i. entry_fits n (get_or cache i empty)) count ((and-eq-true_iff (leb count 16) _).0 q).1 i h))
-
   pub all_fit : count ≤ 16 → ((i : ℕ) → i < count → entry_fits n (get_or cache i empty) ≡ true) → true ≡ entries_hold n cache count
   unfolding entries_hold
   all_fit h f = rw (le-leb count 16 h, true_each (λ i. entry_fits n (get_or cache i empty)) count f)
+
+  -- what `all` over the first `count` places finds
+  pub all_fit_taken : count ≤ 16 → length cache ≡ 16 → {r : Bool}
+      → MatchBool r (AllWithin (λ (e : Entry). entry_fits n e ≡ true) (take count cache) 0 (length (take count cache)))
+      ((k : ℕ) × (k < length (take count cache)) × HoldsAt (λ (e : Entry). entry_fits n e ≡ false) (take count cache) k)
+      → r ≡ entries_hold n cache count
+  unfolding entries_hold
+  all_fit_taken room size {r = true} h =
+      all_fit room (λ i lt. rw (← get_or-take count cache i empty lt) (h i empty (omega arith) (rw (length-take-le count cache (omega arith)) lt)))
+  all_fit_taken room size {r = false} h =
+      let lt : h.0 < count = rw (length-take-le count cache (omega arith)) at h.1 in
+      let there : entry_fits n (get_or (take count cache) h.0 empty) ≡ false = h.2 empty in
+      let unfit : entry_fits n (get_or cache h.0 empty) ≡ false = rw (get_or-take count cache h.0 empty lt) at there in
+      is_false (entries_hold n cache count) (λ e. no_true (sym unfit ∙ fits_at h.0 lt e))
+    where
+      fits_at : (i : ℕ) → i < count → entries_hold n cache count ≡ true → entry_fits n (get_or cache i empty) ≡ true
+      fits_at i lt e = each_true (λ j. entry_fits n (get_or cache j empty)) count ((and-eq-true_iff (leb count 16) _).0 e).1 i lt
 
   pub entries_are : entries_hold n cache count ≡ true → (count ≤ 16) × ((i : ℕ) → i < count → EntryFits n (get_or cache i empty))
   unfolding entries_hold
@@ -50,10 +62,6 @@ module _ (n : ℕ) (cache : List Entry) (count : ℕ) where
           record { b_below = ltb-true x.b n t.0; k_most = leb-true x.k 95 t.1 }
 
 module _ (ws : List ℕ) (count : ℕ) where
-  pub other_words : (length ws ≡ 8 → ⊥) → false ≡ wire_holds ws count
-  unfolding wire_holds
-  other_words h = rw (ne_eqb (length ws) 8 h)
-
   pub eight_words : length ws ≡ 8 → within ws count ≡ wire_holds ws count
   unfolding wire_holds
   eight_words h = rw (eq-eqb (length ws) 8 h)
@@ -85,6 +93,11 @@ together_is t z w places e =
       entries_most = es.0;
       entries_fit = es.1;
     }
+
+-- an answer that is the test says so too
+pub holding : (t : Tables) → TimesFit t.realm → WordsFit t.wire → length t.cache ≡ 16 → {r : Bool} → r ≡ together t
+    → (r ≡ together t) × (r ≡ true → Together t)
+holding t z w places e = (e, λ q. together_is t z w places (sym e ∙ q))
 
 pub is_together : (t : Tables) → Together t → together t ≡ true
 unfolding together

@@ -1,6 +1,6 @@
 -- What follows from the definitions of the same name in specs/.
 -- Assumes nothing.
-use Rattle.std.specs.Prelude.{ℕ, zero, suc, ◌+◌, ◌/◌, ◌%◌, ◌^◌, ◌<◌, ◌≤◌, ◌≡◌, Bool, false, not, ◌&&◌, cond, ◌≢◌}
+use Rattle.std.specs.Prelude.{ℕ, zero, suc, ◌+◌, ◌/◌, ◌%◌, ◌^◌, ◌<◌, ◌≤◌, ◌≡◌, Bool, false, not, ◌&&◌, cond, ◌≢◌, Option, Some, None}
 use Rattle.std.proofs.Math.Path.{refl}
 use Rattle.std.proofs.Common.{sym, ap, ◌∙◌, div-le_self, div-lt_iff_lt-mul, pow-suc, arith, shr-shr, pow_pos}
 use Rattle.std.proofs.Math.Bool.{true, and-eq-true_iff}
@@ -11,9 +11,8 @@ use Rattle.marks.proofs.Bits.{bit_zero, bit_suc, bit_past, bit_small}
 use Rattle.marks.specs.Marks.{is_set}
 use Rattle.marks.proofs.Marks.{is_set_lem, set_is}
 use Rattle.terms.proofs.Choice.{no_true, is_false, cond_first}
+use Rattle.exchange.specs.declared.header.Format.{Format}
 use Rattle.exchange.specs.declared.header.Header.{Header}
-use Rattle.exchange.specs.declared.header.Lookup.{Lookup}
-use Rattle.exchange.specs.declared.header.Lookup.TheVariants.{Found, Missing}
 use Rattle.exchange.specs.Formats.{hd, wide, format_of}
 use Rattle.exchange.specs.Forms.{RULE_SETS}
 use Rattle.exchange.proofs.Laws.Formats.{format_found, most_known, hd_known}
@@ -144,28 +143,28 @@ module _ (h : Realm) where
 -- "3 to 16" under HD, "3 to 32" under HW, and "the .. limits of HW" under H5 and H4
 module _ (n flags ls la : ℕ) where
   pub hd_refusal : header_refusal (record { mark = 0x4844; n = n; flags = flags; ls = ls; la = la }) ≡ cond (header_fits 16 n flags ls la) 0 2
-  hd_refusal = sym (by_lookup _ (Found hd) hd_known)
+  hd_refusal = sym (by_lookup _ (Some hd) hd_known)
 
-  pub wide_refusal_lem : (mark rules : ℕ) → format_of mark ≡ Found (wide mark rules)
+  pub wide_refusal_lem : (mark rules : ℕ) → format_of mark ≡ Some (wide mark rules)
       → header_refusal (record { mark = mark; n = n; flags = flags; ls = ls; la = la }) ≡ cond (header_fits 32 n flags ls la) 0 2
-  wide_refusal_lem mark rules e = sym (by_lookup _ (Found (wide mark rules)) e)
+  wide_refusal_lem mark rules e = sym (by_lookup _ (Some (wide mark rules)) e)
 
 -- no mark names another: a new realm names a rule set
 pub new_known : (mark : ℕ) → rules_by (format_of mark) < RULE_SETS
 new_known mark = by (format_of mark) refl
   where
-    by : (l : Lookup) → format_of mark ≡ l → rules_by l < RULE_SETS
-    by Missing q = omega arith
-    by (Found f) q = (format_found mark f q).1.rules_known
+    by : (l : Option Format) → format_of mark ≡ l → rules_by l < RULE_SETS
+    by None q = omega arith
+    by (Some f) q = (format_found mark f q).1.rules_known
 
 module _ (g : Header) where
   pub taken : g.ls < 2 ^ 32 → g.la < 2 ^ 32 → header_refusal g ≡ 0 → HeaderTaken g
   unfolding header_refusal
   taken hs ha e = by (format_of g.mark) refl e
     where
-      by : (l : Lookup) → format_of g.mark ≡ l → refusal_by l g ≡ 0 → HeaderTaken g
-      by Missing q z = absurd (omega arith)
-      by (Found f) q z =
+      by : (l : Option Format) → format_of g.mark ≡ l → refusal_by l g ≡ 0 → HeaderTaken g
+      by None q z = absurd (omega arith)
+      by (Some f) q z =
           let t : header_fits f.most g.n g.flags g.ls g.la ≡ true = (cond_first (header_fits f.most g.n g.flags g.ls g.la) {a = 0} {b = 2} {x = 0} (λ q. omega arith) z).0 in
           record {
             format = f;
@@ -176,7 +175,7 @@ module _ (g : Header) where
 
   pub taken_back : HeaderTaken g → header_refusal g ≡ 0
   taken_back t =
-      sym (by_lookup g (Found t.format) t.known)
+      sym (by_lookup g (Some t.format) t.known)
       ∙ ap (λ (b : Bool). cond b 0 2) (passes_fits t.format.most g.n g.flags g.ls g.la t.within t.passes)
 
   -- its flags are those of its principals

@@ -4,15 +4,9 @@ use Rattle.std.specs.Prelude.{ℕ, ◌<◌, ◌≤◌, ◌≡◌, refl, Bool, tr
 use Rattle.std.proofs.Common.{sym, arith}
 use borrow.Author.Tests.{le-leb, lt-leb, leb-true}
 use Rattle.std.proofs.Math.Bool.{and-eq-true_iff}
-use Rattle.std.proofs.Math.ListN.{get_or-eq_default}
 use Rattle.realm.specs.declared.header.Realm.{Realm}
 use Rattle.realm.specs.declared.input.Step.{Step}
-use Rattle.realm.specs.Input.{none, uses_table, uses_of, unused_zero, in_range, input_refusal, InputPassed}
-
--- a number that is no step uses no field
-pub past_uses : (step : ℕ) → 10 < step → uses_of step ≡ none
-unfolding uses_table
-past_uses step h = get_or-eq_default uses_table none h
+use Rattle.realm.specs.Input.{uses_of, unused_zero, in_range, input_refusal, InputPassed}
 
 -- ---- by the way out
 

@@ -1,13 +1,11 @@
 -- What the crate promises beside the contracts of its functions. Reading order of the definitions: Opening (a realm is opened, or
 -- refusal 1 or 2), Input (refusals 4, 5 and 6 of a step), Tables and Check (what refusal 10 looks at).
 -- Assumes nothing.
-use Rattle.std.specs.Prelude.{ℕ, ◌^◌, ◌<◌, ◌≡◌, true, ◌↔◌, length}
+use Rattle.std.specs.Prelude.{ℕ, ◌^◌, ◌<◌, ◌≡◌, true, ◌↔◌, length, Some, Ok}
 use Rattle.std.proofs.Common.{sym, ap, ◌∙◌}
 use Rattle.exchange.specs.declared.header.Format.{Format}
 use Rattle.exchange.specs.declared.header.Header.{Header}
-use Rattle.exchange.specs.declared.header.Lookup.TheVariants.{Found}
 use Rattle.exchange.specs.Formats.{format_of}
-use Rattle.realm.specs.declared.header.Opening.TheVariants.{Open}
 use Rattle.realm.specs.declared.header.Realm.{Realm}
 use Rattle.realm.specs.declared.input.Step.{Step}
 use Rattle.realm.proofs.Check as checks
@@ -27,7 +25,7 @@ pub use Rattle.exchange.proofs.Laws.Formats.{hd_known, hw_known, h5_known, h4_kn
 pub use Rattle.exchange.proofs.Laws.Forms.{mark_forms}
 
 -- A new realm has the rule set of its mark.
-pub opened_rules : (g : Header) (f : Format) (h : Realm) → format_of g.mark ≡ Found f → opening_of g ≡ Open h → h.rules ≡ f.rules
+pub opened_rules : (g : Header) (f : Format) (h : Realm) → format_of g.mark ≡ Some f → opening_of g ≡ Ok h → h.rules ≡ f.rules
 opened_rules g f h e o = ap (λ (x : Realm). x.rules) (sym (new.opened_is g h o).1) ∙ ap rules_by e
 
 -- A header of the file's widths opens a realm exactly where its mark is known, n is within the mark's limit, and the exchange's
@@ -36,8 +34,8 @@ pub header_exact : (g : Header) → g.ls < 2 ^ 32 → g.la < 2 ^ 32 → (header_
 header_exact g hs ha = (taken g hs ha, taken_back g)
 
 -- Of its mark a realm keeps the rule set: with the same values, marks of one rule set open the same.
-pub same_realm : (g : Header) (mark : ℕ) (h i : Realm) → rules_by (format_of mark) ≡ rules_by (format_of g.mark) → opening_of g ≡ Open h
-    → opening_of (record { mark = mark; n = g.n; flags = g.flags; ls = g.ls; la = g.la }) ≡ Open i → h ≡ i
+pub same_realm : (g : Header) (mark : ℕ) (h i : Realm) → rules_by (format_of mark) ≡ rules_by (format_of g.mark) → opening_of g ≡ Ok h
+    → opening_of (record { mark = mark; n = g.n; flags = g.flags; ls = g.ls; la = g.la }) ≡ Ok i → h ≡ i
 same_realm = new.same_realm
 
 -- A step's fields pass exactly where the step is one of ten, unused fields are 0, and used ones are in range.
@@ -49,5 +47,5 @@ pub check_exact : (t : Tables) → TimesFit t.realm → WordsFit t.wire → leng
 check_exact t z w places = (checks.together_is t z w places, checks.is_together t)
 
 -- The tables that a caller lends for a realm that `open_realm` gave hold together, whatever stands in their places.
-pub new_together : (g : Header) (h : Realm) (t : Tables) → g.ls < 2 ^ 32 → g.la < 2 ^ 32 → opening_of g ≡ Open h → Lends h t → Together t
+pub new_together : (g : Header) (h : Realm) (t : Tables) → g.ls < 2 ^ 32 → g.la < 2 ^ 32 → opening_of g ≡ Ok h → Lends h t → Together t
 new_together = new.new_together

@@ -1,16 +1,12 @@
 -- Opening a realm (document 01, "The hall and its clock"), or refusal 1 or 2.
 -- Assumes nothing.
-use Rattle.std.specs.Prelude.{ℕ, zero, suc, ◌/◌, ◌^◌, Bool, not, ◌&&◌, cond, ltb, leb, eqb}
+use Rattle.std.specs.Prelude.{ℕ, zero, suc, ◌/◌, ◌^◌, Bool, not, ◌&&◌, cond, ltb, leb, eqb, Option, Some, None, Result, Ok, Err}
 use Rattle.marks.specs.Marks.{is_set}
 use Rattle.exchange.specs.declared.header.Format.{Format}
 use Rattle.exchange.specs.declared.header.Header.{Header}
-use Rattle.exchange.specs.declared.header.Lookup.{Lookup}
-use Rattle.exchange.specs.declared.header.Lookup.TheVariants.{Found, Missing}
 use Rattle.exchange.specs.Formats.{format_of}
 use Rattle.exchange.specs.Forms.{RULE_SETS}
 use Rattle.traces.specs.Realm as exchange
-use Rattle.realm.specs.declared.header.Opening.{Opening}
-use Rattle.realm.specs.declared.header.Opening.TheVariants.{Open, Refused}
 use Rattle.realm.specs.declared.header.Realm.{Realm}
 
 -- the header of a realm, as the exchange has it
@@ -30,17 +26,17 @@ realm_fits h = header_fits 32 h.n h.flags h.ls h.la && ltb h.rules RULE_SETS
 abbrev pub limit_refusal : (most : ℕ) → Header → ℕ
 limit_refusal most g = cond (header_fits most g.n g.flags g.ls g.la) 0 2
 
-abbrev pub refusal_by : Lookup → Header → ℕ
-refusal_by (Found f) g = limit_refusal f.most g
-refusal_by Missing g = 1
+abbrev pub refusal_by : Option Format → Header → ℕ
+refusal_by (Some f) g = limit_refusal f.most g
+refusal_by None g = 1
 
 unfoldable pub header_refusal : Header → ℕ
 header_refusal g = refusal_by (format_of g.mark) g
 
 -- "rule sets, named by header marks"
-abbrev pub rules_by : Lookup → ℕ
-rules_by (Found f) = f.rules
-rules_by Missing = 0
+abbrev pub rules_by : Option Format → ℕ
+rules_by (Some f) = f.rules
+rules_by None = 0
 
 -- "A new hall has clock 0 and empty tables."
 abbrev pub new_under : (rules : ℕ) → Header → Realm
@@ -50,12 +46,9 @@ new_under rules g =
 abbrev pub new_realm : Header → Realm
 new_realm g = new_under (rules_by (format_of g.mark)) g
 
-abbrev pub opening_by : (refusal rules : ℕ) → Header → Opening
-opening_by zero rules g = Open (new_under rules g)
-opening_by (suc k) rules g = Refused (suc k)
+abbrev pub opening_by : (refusal rules : ℕ) → Header → Result Realm ℕ
+opening_by zero rules g = Ok (new_under rules g)
+opening_by (suc k) rules g = Err (suc k)
 
-abbrev pub opening_under : Format → Header → Opening
-opening_under f g = opening_by (limit_refusal f.most g) f.rules g
-
-unfoldable pub opening_of : Header → Opening
+unfoldable pub opening_of : Header → Result Realm ℕ
 opening_of g = opening_by (header_refusal g) (rules_by (format_of g.mark)) g

@@ -1,10 +1,13 @@
 // A realm: its header, its clock, and how many places of each lent table are in use.
-ghost use Rattle.std.specs.Prelude.{◌≡◌, ◌≤◌};
-ghost use Rattle.realm.specs.Opening.{header_fits, realm_fits, limit_refusal, header_refusal, opening_under, opening_of};
+ghost use Rattle.std.specs.Prelude.{◌≡◌, ◌≤◌, OnOk, IfOk};
+ghost use Rattle.refusals.specs.Numbers.{number_of, numbered};
+ghost use Rattle.realm.specs.Opening.{header_fits, realm_fits, header_refusal, rules_by, opening_of};
+ghost use Rattle.exchange.specs.Formats.{format_of};
 
 use exchange::form::RULE_SETS;
-use exchange::header::{Format, Header, Lookup, REFUSE_FILE, format_of};
+use exchange::header::{Format, Header, format_of};
 use marks::flagged;
+use refusals::Refusal;
 
 #[repr(C)]
 #[derive(Clone, Copy)]
@@ -23,8 +26,6 @@ pub struct Realm {
     pub entries: usize,
 }
 
-pub const REFUSE_HEADER: u8 = 2;
-
 // Principals of a realm, the server among them: at least, and at most under any mark.
 const LEAST_PRINCIPALS: u8 = 3;
 
@@ -34,65 +35,56 @@ pub const MOST_PRINCIPALS: u8 = 32;
 const SERVER: u16 = 0;
 
 // Whether a realm of at most so many principals can have these values: no flag on the server or at n and above, no life of 0.
+#[tactic(auto, unfolding(crate::specs::Opening::header_fits))]
 pub fn header_fits(most: u8, n: u8, flags: u32, ls: u32, la: u32) -> bool
     requires { most ≤ 32 }
     ensures { result ≡ header_fits most n flags ls la }
 {
-    if n < LEAST_PRINCIPALS {
-        return false;
-    }
-    if most < n {
-        return false;
-    }
     // n can be 32, the width of the flags
-    let above = (flags as u64) >> n;
-    !flagged(flags, SERVER) & (above == 0) & (0 < ls) & (0 < la)
+    LEAST_PRINCIPALS <= n
+        && n <= most
+        && !flagged(flags, SERVER)
+        && (flags as u64) >> n == 0
+        && 0 < ls
+        && 0 < la
 }
 
 // Whether a realm that is lent can be one: values that a header can have under any mark, and a rule set.
+#[tactic(auto, unfolding(crate::specs::Opening::realm_fits))]
 pub fn realm_fits(h: Realm) -> bool
     ensures { result ≡ realm_fits h }
 {
-    header_fits(MOST_PRINCIPALS, h.n, h.flags, h.ls, h.la) & (h.rules < RULE_SETS)
+    header_fits(MOST_PRINCIPALS, h.n, h.flags, h.ls, h.la) && h.rules < RULE_SETS
 }
 
-// 0 for values within the mark's limit, else the number of the refusal.
-fn limit_refusal(most: u8, header: Header) -> u8
-    requires { most ≤ 32 }
-    ensures { result ≡ limit_refusal most header }
+// The row of a header's mark, if its values are within the mark's limit.
+#[tactic(auto, using(exchange::proofs::Laws::Formats::most_known), unfolding(crate::specs::Opening::header_refusal))]
+fn read_format(header: Header) -> Result<Format, Refusal>
+    ensures number { number_of result ≡ header_refusal header }
+    ensures rules { IfOk result (λ f. f.rules ≡ rules_by (format_of header.mark)) }
 {
-    if header_fits(most, header.n, header.flags, header.ls, header.la) {
-        return 0;
+    let format = format_of(header.mark).ok_or(Refusal::File)?;
+    if !header_fits(format.most, header.n, header.flags, header.ls, header.la) {
+        return Err(Refusal::Header);
     }
-    REFUSE_HEADER
+    Ok(format)
 }
 
-// 0 for a header that opens a realm, else the number of the refusal.
-pub fn header_refusal(header: Header) -> u8
-    ensures { result ≡ header_refusal header }
+// Whether a header opens a realm. Refused: 1 and 2.
+pub fn check_header(header: Header) -> Result<(), Refusal>
+    ensures { number_of result ≡ header_refusal header }
 {
-    match format_of(header.mark) {
-        Lookup::Found(format) => limit_refusal(format.most, header),
-        Lookup::Missing => REFUSE_FILE,
-    }
+    read_format(header)?;
+    Ok(())
 }
 
-#[derive(Clone, Copy)]
-pub enum Opening {
-    Open(Realm),
-    Refused(u8),
-}
-
-// A new realm under a mark: clock 0 and empty tables. Of its mark it keeps the rule set.
-fn open_under(format: Format, header: Header) -> Opening
-    requires { format.most ≤ 32 }
-    ensures { result ≡ opening_under format header }
+// A new realm: clock 0 and empty tables. Of its mark it keeps the rule set.
+#[tactic(auto, unfolding(crate::specs::Opening::opening_of))]
+pub fn open_realm(header: Header) -> Result<Realm, Refusal>
+    ensures { numbered result ≡ opening_of header }
 {
-    let refusal = limit_refusal(format.most, header);
-    if refusal != 0 {
-        return Opening::Refused(refusal);
-    }
-    Opening::Open(Realm {
+    let format = read_format(header)?;
+    Ok(Realm {
         n: header.n,
         rules: format.rules,
         flags: header.flags,
@@ -103,14 +95,4 @@ fn open_under(format: Format, header: Header) -> Opening
         runs: 0,
         entries: 0,
     })
-}
-
-// A new realm, by the row of its mark.
-pub fn open_realm(header: Header) -> Opening
-    ensures { result ≡ opening_of header }
-{
-    match format_of(header.mark) {
-        Lookup::Found(format) => open_under(format, header),
-        Lookup::Missing => Opening::Refused(REFUSE_FILE),
-    }
 }

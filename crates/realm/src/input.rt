@@ -1,10 +1,11 @@
 // What turns a step away by its fields: refusals 4, 5 and 6, in this order.
 ghost use Rattle.std.specs.Prelude.{◌≡◌};
+ghost use Rattle.refusals.specs.Numbers.{number_of};
 ghost use Rattle.realm.specs.Input.{uses_of, unused_zero, in_range, input_refusal};
 
 use super::header::Realm;
+use refusals::Refusal;
 use runs::lent::principals_fit;
-use terms::rules::{REFUSE_KIND, REFUSE_RANGE, REFUSE_UNUSED};
 
 // The fields of a step, as an ST record has them.
 #[derive(Clone, Copy)]
@@ -37,53 +38,37 @@ const NO_FIELD: Uses = Uses {
 
 // Steps 1 and 2.
 const OPENS: Uses = Uses {
-    run: false,
     a: true,
     b: true,
-    m: false,
-    t: false,
+    ..NO_FIELD
 };
 
 // Steps 4, 5 and 6.
 const TAKES: Uses = Uses {
     run: true,
-    a: false,
-    b: false,
     m: true,
-    t: false,
+    ..NO_FIELD
 };
 
 // Steps 3 and 10.
 const MESSAGE: Uses = Uses {
-    run: false,
-    a: false,
-    b: false,
     m: true,
-    t: false,
+    ..NO_FIELD
 };
 
 const TICKS: Uses = Uses {
-    run: false,
-    a: false,
-    b: false,
-    m: false,
     t: true,
+    ..NO_FIELD
 };
 
 const PURGES: Uses = Uses {
-    run: false,
-    a: false,
     b: true,
-    m: false,
-    t: false,
+    ..NO_FIELD
 };
 
 const LEAKS: Uses = Uses {
     run: true,
-    a: false,
-    b: false,
-    m: false,
-    t: false,
+    ..NO_FIELD
 };
 
 const LAST_STEP: u8 = 10;
@@ -94,53 +79,52 @@ const USES: [Uses; 11] = [
 ];
 
 // What a step uses; a number that is no step uses no field.
+#[tactic(auto, unfolding(crate::specs::Input::uses_table))]
 fn used_by(step: u8) -> Uses
     ensures { result ≡ uses_of step }
 {
-    if LAST_STEP < step {
-        return NO_FIELD;
-    }
-    USES[step as usize]
+    USES.get(step as usize).copied().unwrap_or(NO_FIELD)
 }
 
 // Whether every field that is not used is 0.
 fn unused_zero(uses: Uses, s: Step) -> bool
     ensures { result ≡ unused_zero uses s }
 {
-    (uses.run | (s.run == 0))
-        & (uses.a | (s.a == 0))
-        & (uses.b | (s.b == 0))
-        & (uses.m | (s.m == 0))
-        & (uses.t | (s.t == 0))
+    (uses.run || s.run == 0)
+        && (uses.a || s.a == 0)
+        && (uses.b || s.b == 0)
+        && (uses.m || s.m == 0)
+        && (uses.t || s.t == 0)
 }
 
 // Whether the fields that are used name a run, a term and principals that there are. Only steps 1 and 2 use a.
+#[tactic(auto, unfolding(crate::specs::Input::in_range))]
 fn in_range(h: Realm, uses: Uses, s: Step) -> bool
     ensures { result ≡ in_range h uses s }
 {
-    (!uses.run | ((s.run as usize) < h.runs))
-        & (!uses.a | principals_fit(h.n, s.a, s.b))
-        & (!uses.b | (s.b < h.n))
-        & (!uses.m | ((s.m as usize) < h.terms))
+    (!uses.run || (s.run as usize) < h.runs)
+        && (!uses.a || principals_fit(h.n, s.a, s.b))
+        && (!uses.b || s.b < h.n)
+        && (!uses.m || (s.m as usize) < h.terms)
 }
 
-// 0 for fields that a step can have, else the number of the refusal.
-pub fn input_refusal(h: Realm, s: Step) -> u8
-    ensures { result ≡ input_refusal h s }
+// Whether a step can have these fields. Refused: 4, 5 and 6.
+pub fn check_input(h: Realm, s: Step) -> Result<(), Refusal>
+    ensures { number_of result ≡ input_refusal h s }
 {
     let step = s.step;
     if step < 1 {
-        return REFUSE_KIND;
+        return Err(Refusal::Kind);
     }
     if LAST_STEP < step {
-        return REFUSE_KIND;
+        return Err(Refusal::Kind);
     }
     let used = used_by(step);
     if !unused_zero(used, s) {
-        return REFUSE_UNUSED;
+        return Err(Refusal::Unused);
     }
     if !in_range(h, used, s) {
-        return REFUSE_RANGE;
+        return Err(Refusal::Range);
     }
-    0
+    Ok(())
 }

@@ -14,38 +14,25 @@ use terms::rules::LAST_NUMBER;
 pub const WIRE_WORDS: usize = 8;
 
 // Whether the wire has its words and no mark past the last term.
+#[tactic(auto, unfolding(crate::specs::Check::wire_holds))]
 fn wire_holds(wire: &[u64], count: usize) -> bool
     ensures { (result ≡ wire_holds wire.now count) × WordsFit wire.now }
 {
-    if wire.len() != WIRE_WORDS {
-        return false;
-    }
-    is_within(load(wire), count)
+    wire.len() == WIRE_WORDS && is_within(load(wire), count)
 }
 
 // Whether an entry names a principal and a session key.
 fn entry_fits(e: Entry, n: u8) -> bool
     ensures { result ≡ entry_fits n e }
 {
-    (e.b < n as u16) & (e.k <= LAST_NUMBER)
+    e.b < n as u16 && e.k <= LAST_NUMBER
 }
 
 // Whether the first `count` places are entries of a realm of n principals.
 fn entries_hold(cache: [Entry; 16], count: usize, n: u8) -> bool
     ensures { result ≡ entries_hold n cache count }
 {
-    if PLACES < count {
-        return false;
-    }
-    let mut i: usize = 0;
-    while i < count {
-        let e = cache[i];
-        if !entry_fits(e, n) {
-            return false;
-        }
-        i += 1;
-    }
-    true
+    count <= PLACES && cache[..count].iter().all(|&e| entry_fits(e, n))
 }
 
 // Whether all tables hold together.
@@ -54,8 +41,8 @@ pub fn tables_hold(h: Realm, terms: &[u64], runs: &[u32], wire: &[u64], cache: [
 {
     let n = h.n;
     realm_fits(h)
-        & holds_together(terms, h.terms, n as u16)
-        & rows_hold(runs, h.runs, n, terms, h.terms)
-        & wire_holds(wire, h.terms)
-        & entries_hold(cache, h.entries, n)
+        && holds_together(terms, h.terms, n as u16)
+        && rows_hold(runs, h.runs, n, terms, h.terms)
+        && wire_holds(wire, h.terms)
+        && entries_hold(cache, h.entries, n)
 }

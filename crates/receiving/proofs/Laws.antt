@@ -1,10 +1,9 @@
 -- Each way out of the steps that take a message, and that what they narrow fits a byte.
 -- Assumes nothing.
-use Rattle.std.specs.Prelude.{ℕ, ◌<◌, ◌≤◌, true, false, not, ◌&&◌, List, ◌≡◌, eqb}
-use Rattle.std.proofs.Common.{sym, ap, arith}
+use Rattle.std.specs.Prelude.{ℕ, ◌<◌, ◌≤◌, true, false, not, ◌&&◌, List, ◌≡◌, ◌≢◌, ◌⊎◌, eqb, Ok, Err, None, Some}
+use Rattle.std.proofs.Common.{sym, ap, arith, inl, inr}
 use borrow.Author.Tests.{lt-ltb, le-ltb, eq-eqb, ne_eqb}
 use Rattle.terms.specs.Meaning.{message_at}
-use Rattle.terms.specs.Message.{Message}
 use Rattle.terms.specs.Number.{number_in, terms_of}
 use Rattle.terms.specs.Valid.{Valid}
 use Rattle.decisions.specs.Effects.{issuing, authenticating, accepting, finishing}
@@ -13,126 +12,154 @@ use Rattle.exchange.specs.declared.run.Row.{Row}
 use Rattle.exchange.specs.Forms.{form_of}
 use Rattle.layers.proofs.Promises.{in_range_lem}
 use Rattle.forms.specs.Forms.{request_in, confirmation_in}
-use Rattle.forms.specs.Grant.{Is, Other, grant_in, Grants}
+use Rattle.forms.specs.Grant.{Granted, grant_in, Grants}
 use Rattle.forms.proofs.Promises.{is_request, is_grant}
-use Rattle.forms.specs.declared.Confirmation.TheVariants as confirmations
-use Rattle.forms.specs.declared.Grant.TheVariants as grants
-use Rattle.forms.specs.declared.Request.TheVariants as requests
+use Rattle.forms.specs.declared.Confirmation.{Confirmation}
+use Rattle.forms.specs.declared.Grant.{Grant}
+use Rattle.forms.specs.declared.Request.{Request}
 use Rattle.forms.specs.Delivery.{delivery_in}
 use Rattle.forms.proofs.Promises.{is_delivery}
-use Rattle.forms.specs.declared.Delivery.TheVariants as deliveries
+use Rattle.forms.specs.declared.Delivery.{Delivery}
 use Rattle.replay.specs.declared.entry.Entry.{Entry}
 use Rattle.realm.specs.declared.header.Realm.{Realm}
-use Rattle.decisions.specs.declared.Verdict.TheVariants.{Takes, Refused}
 use Rattle.conditions.specs.Conditions.{derivable_at, ticket_lives, admission}
 use Rattle.decisions.proofs.Laws.Forms.{grant_key}
 use Rattle.messages.proofs.Parts.{number_here}
 use Rattle.decisions.specs.Decision.{need, issues, authenticates, takes, finishes}
 
+-- ---- two numbers or three, compared one after the other
+
+-- what `if` knows of its branches, as the test that a definition makes
+module _ {a x b y : ℕ} where
+  pub both : a ≡ x → b ≡ y → (eqb a x && eqb b y) ≡ true
+  both e f = rw (eq-eqb a x e, eq-eqb b y f)
+
+  pub one_differs : (a ≢ x) ⊎ ((a ≡ x) × (b ≢ y)) → (eqb a x && eqb b y) ≡ false
+  one_differs (inl n) = rw (ne_eqb a x n)
+  one_differs (inr (e, n)) = rw (eq-eqb a x e, ne_eqb b y n)
+
+pub all_three : {a x b y c z : ℕ} → a ≡ x → b ≡ y → c ≡ z → (eqb a x && eqb b y && eqb c z) ≡ true
+all_three {a} {x} e f g = rw (eq-eqb a x e) (both f g)
+
+pub one_of_three_differs : {a x b y c z : ℕ} → (a ≢ x) ⊎ (((a ≡ x) × (b ≢ y)) ⊎ ((a ≡ x) × (b ≡ y) × (c ≢ z)))
+    → (eqb a x && eqb b y && eqb c z) ≡ false
+one_of_three_differs {a} {x} (inl n) = rw (ne_eqb a x n)
+one_of_three_differs {a} {x} (inr (inl (e, n))) = rw (eq-eqb a x e) (one_differs (inl n))
+one_of_three_differs {a} {x} (inr (inr (e, f, n))) = rw (eq-eqb a x e) (one_differs (inr (f, n)))
+
 -- ---- step 3
 
+module _ {a b : ℕ} where
+  pub principals_apart : a ≢ 0 → b ≢ 0 → a ≢ b → (not (eqb a 0) && not (eqb b 0) && not (eqb a b)) ≡ true
+  principals_apart f g n = rw (ne_eqb a 0 f, ne_eqb b 0 g, ne_eqb a b n)
+
+  pub principals_barred : (a ≡ 0) ⊎ (((a ≢ 0) × (b ≡ 0)) ⊎ ((a ≢ 0) × (b ≢ 0) × (a ≡ b))) → (not (eqb a 0) && not (eqb b 0) && not (eqb a b)) ≡ false
+  principals_barred (inl e) = rw (eq-eqb a 0 e)
+  principals_barred (inr (inl (f, e))) = rw (ne_eqb a 0 f, eq-eqb b 0 e)
+  principals_barred (inr (inr (f, g, e))) = rw (ne_eqb a 0 f, ne_eqb b 0 g, eq-eqb a b e)
+
 module _ (h : Realm) (ts ws : List ℕ) (m : ℕ) where
-  pub no_room_to_issue : 64 ≤ h.runs → Refused 13 ≡ issues h ts ws m
+  pub no_room_to_issue : 64 ≤ h.runs → Err 13 ≡ issues h ts ws m
   unfolding issues
   no_room_to_issue p = rw (le-ltb h.runs 64 p)
 
   module _ (room : h.runs < 64) where
-    pub no_request : request_in (message_at ts m) ≡ requests.Other → Refused 14 ≡ issues h ts ws m
+    pub no_request : request_in (message_at ts m) ≡ None → Err 14 ≡ issues h ts ws m
     unfolding issues
     no_request e = rw (lt-ltb h.runs 64 room, e)
 
-    module _ (a b n : ℕ) (is : request_in (message_at ts m) ≡ requests.Is a b n) where
-      pub request_barred : (not (eqb a 0) && not (eqb b 0) && not (eqb a b)) ≡ false → Refused 14 ≡ issues h ts ws m
+    module _ (q : Request) (is : request_in (message_at ts m) ≡ Some q) where
+      pub request_barred : (not (eqb q.a 0) && not (eqb q.b 0) && not (eqb q.a q.b)) ≡ false → Err 14 ≡ issues h ts ws m
       unfolding issues
       request_barred p = rw (lt-ltb h.runs 64 room, is, p)
 
-      module _ (apart : (not (eqb a 0) && not (eqb b 0) && not (eqb a b)) ≡ true) where
-        pub request_asked : (f : Form) → f ≡ form_of h.rules → need (derivable_at h ts ws m) 15 (Takes (issuing h.clock f h.runs a b n)) ≡ issues h ts ws m
+      module _ (apart : (not (eqb q.a 0) && not (eqb q.b 0) && not (eqb q.a q.b)) ≡ true) where
+        pub request_asked : (f : Form) → f ≡ form_of h.rules → need (derivable_at h ts ws m) 15 (Ok (issuing h.clock f h.runs q.a q.b q.n)) ≡ issues h ts ws m
         unfolding issues
-        request_asked f q = rw (q, lt-ltb h.runs 64 room, is, apart)
+        request_asked f g = rw (g, lt-ltb h.runs 64 room, is, apart)
 
 -- ---- step 4
 
 module _ (h : Realm) (ts ws : List ℕ) (r : ℕ) (own : Row) (m : ℕ) where
-  pub no_grant : grant_in (form_of h.rules) (message_at ts m) ≡ Other → Refused 14 ≡ authenticates h ts ws r own m
+  pub no_grant : grant_in (form_of h.rules) (message_at ts m) ≡ None → Err 14 ≡ authenticates h ts ws r own m
   unfolding authenticates
   no_grant e = rw e
 
-  module _ (k b ts' n a : ℕ) (x : Message) (is : grant_in (form_of h.rules) (message_at ts m) ≡ Is k b ts' n a x) where
-    pub grant_to_another : (eqb b own.b && eqb n r && eqb a own.a) ≡ false → Refused 14 ≡ authenticates h ts ws r own m
+  module _ (q : Granted) (is : grant_in (form_of h.rules) (message_at ts m) ≡ Some q) where
+    pub grant_to_another : (eqb q.b own.b && eqb q.n r && eqb q.a own.a) ≡ false → Err 14 ≡ authenticates h ts ws r own m
     unfolding authenticates
     grant_to_another p = rw (is, p)
 
-    module _ (mine : (eqb b own.b && eqb n r && eqb a own.a) ≡ true) where
-      pub grant_over : ticket_lives h ts' ≡ false → need (derivable_at h ts ws m) 15 (Refused 16) ≡ authenticates h ts ws r own m
+    module _ (mine : (eqb q.b own.b && eqb q.n r && eqb q.a own.a) ≡ true) where
+      pub grant_over : ticket_lives h q.ts ≡ false → need (derivable_at h ts ws m) 15 (Err 16) ≡ authenticates h ts ws r own m
       unfolding authenticates
       grant_over p = rw (is, mine, p)
 
-      pub grant_asked : (f : Form) → f ≡ form_of h.rules → (i : ℕ) → i ≡ number_in (terms_of ts h.terms) x → ticket_lives h ts' ≡ true
-          → need (derivable_at h ts ws m) 15 (Takes (authenticating h.clock f r own.a own.b k ts' i)) ≡ authenticates h ts ws r own m
+      pub grant_asked : (f : Form) → f ≡ form_of h.rules → (i : ℕ) → i ≡ number_in (terms_of ts h.terms) q.x → ticket_lives h q.ts ≡ true
+          → need (derivable_at h ts ws m) 15 (Ok (authenticating h.clock f r own.a own.b q.k q.ts i)) ≡ authenticates h ts ws r own m
       unfolding authenticates
-      grant_asked f q i e p = rw (q, is, mine, p) (ap (λ (j : ℕ). need (derivable_at h ts ws m) 15 (Takes (authenticating h.clock (form_of h.rules) r own.a own.b k ts' j))) e)
+      grant_asked f g i e p = rw (g, is, mine, p) (ap (λ (j : ℕ). need (derivable_at h ts ws m) 15 (Ok (authenticating h.clock (form_of h.rules) r own.a own.b q.k q.ts j))) e)
 
 -- ---- step 5
 
 module _ (h : Realm) (ts ws : List ℕ) (cache : List Entry) (r : ℕ) (own : Row) (m : ℕ) where
-  pub no_delivery : delivery_in (message_at ts m) ≡ deliveries.Other → Refused 14 ≡ takes h ts ws cache r own m
+  pub no_delivery : delivery_in (message_at ts m) ≡ None → Err 14 ≡ takes h ts ws cache r own m
   unfolding takes
   no_delivery e = rw e
 
-  module _ (k a ts' b ta : ℕ) (is : delivery_in (message_at ts m) ≡ deliveries.Is k a ts' b ta) where
-    pub delivery_to_another : (eqb a own.a && eqb b own.b) ≡ false → Refused 14 ≡ takes h ts ws cache r own m
+  module _ (q : Delivery) (is : delivery_in (message_at ts m) ≡ Some q) where
+    pub delivery_to_another : (eqb q.a own.a && eqb q.b own.b) ≡ false → Err 14 ≡ takes h ts ws cache r own m
     unfolding takes
     delivery_to_another p = rw (is, p)
 
-    module _ (mine : (eqb a own.a && eqb b own.b) ≡ true) where
-      module _ (number : ℕ) (admits : number ≡ admission h cache ts' (record { b = b; k = k; ta = ta })) where
-        pub delivery_barred : (number ≡ 0 → ⊥) → need (derivable_at h ts ws m) 15 (Refused number) ≡ takes h ts ws cache r own m
+    module _ (mine : (eqb q.a own.a && eqb q.b own.b) ≡ true) where
+      module _ (number : ℕ) (admits : number ≡ admission h cache q.ts (record { b = q.b; k = q.k; ta = q.ta })) where
+        pub delivery_barred : (number ≡ 0 → ⊥) → need (derivable_at h ts ws m) 15 (Err number) ≡ takes h ts ws cache r own m
         unfolding takes
         delivery_barred p = rw (is, mine, ← admits, ne_eqb number 0 p)
 
         pub delivery_asked : number ≡ 0
-            → need (derivable_at h ts ws m) 15 (Takes (accepting h.clock r own.a own.b k ts' ta)) ≡ takes h ts ws cache r own m
+            → need (derivable_at h ts ws m) 15 (Ok (accepting h.clock r own.a own.b q.k q.ts q.ta)) ≡ takes h ts ws cache r own m
         unfolding takes
         delivery_asked p = rw (is, mine, ← admits, eq-eqb number 0 p)
 
 -- ---- step 6
 
 module _ (h : Realm) (ts ws : List ℕ) (r : ℕ) (own : Row) (m : ℕ) where
-  pub no_confirmation : confirmation_in (message_at ts m) ≡ confirmations.Other → Refused 14 ≡ finishes h ts ws r own m
+  pub no_confirmation : confirmation_in (message_at ts m) ≡ None → Err 14 ≡ finishes h ts ws r own m
   unfolding finishes
   no_confirmation e = rw e
 
-  module _ (ta k : ℕ) (is : confirmation_in (message_at ts m) ≡ confirmations.Is ta k) where
-    pub confirmation_to_another : (eqb ta own.ta && eqb k own.k) ≡ false → Refused 14 ≡ finishes h ts ws r own m
+  module _ (q : Confirmation) (is : confirmation_in (message_at ts m) ≡ Some q) where
+    pub confirmation_to_another : (eqb q.ta own.ta && eqb q.k own.k) ≡ false → Err 14 ≡ finishes h ts ws r own m
     unfolding finishes
     confirmation_to_another p = rw (is, p)
 
-    module _ (mine : (eqb ta own.ta && eqb k own.k) ≡ true) where
-      pub confirmation_over : ticket_lives h own.ts ≡ false → need (derivable_at h ts ws m) 15 (Refused 16) ≡ finishes h ts ws r own m
+    module _ (mine : (eqb q.ta own.ta && eqb q.k own.k) ≡ true) where
+      pub confirmation_over : ticket_lives h own.ts ≡ false → need (derivable_at h ts ws m) 15 (Err 16) ≡ finishes h ts ws r own m
       unfolding finishes
       confirmation_over p = rw (is, mine, p)
 
       pub confirmation_asked : ticket_lives h own.ts ≡ true
-          → need (derivable_at h ts ws m) 15 (Takes (finishing h.clock r own.a own.b own.k own.ts own.ta)) ≡ finishes h ts ws r own m
+          → need (derivable_at h ts ws m) 15 (Ok (finishing h.clock r own.a own.b own.k own.ts own.ta)) ≡ finishes h ts ws r own m
       unfolding finishes
       confirmation_asked p = rw (is, mine, p)
 
 -- ---- what is read fits
 
 module _ (h : Realm) {ts : List ℕ} {m : ℕ} (valid : Valid h.n ts h.terms) (below : m < h.terms) where
-  pub request_in_range : (a b n : ℕ) → request_in (message_at ts m) ≡ requests.Is a b n → (a < h.n) × (b < h.n)
-  request_in_range a b n e = let w = in_range_lem valid below ((is_request (message_at ts m) a b n).0 e) in (w.0, w.1.0)
+  pub request_in_range : (q : Request) → request_in (message_at ts m) ≡ Some q → (q.a < h.n) × (q.b < h.n)
+  request_in_range q e = let w = in_range_lem valid below ((is_request (message_at ts m) q).0 e) in (w.0, w.1.0)
 
-  module _ (f : Form) (k b ts' n a x : ℕ) (g : Grants ts m (grants.Is k b ts' n a x) (grant_in f (message_at ts m))) where
-    pub grant_key_most : k ≤ 95
+  module _ (f : Form) (g : Grant) (is : Grants ts m (Some g) (grant_in f (message_at ts m))) where
+    pub grant_key_most : g.k ≤ 95
     grant_key_most =
-        grant_key h.n f k b ts' n a (message_at ts x)
-        (in_range_lem valid below ((is_grant (message_at ts m) f k b ts' n a (message_at ts x)).0 g.0).0)
+        grant_key h.n f g.k g.b g.ts g.n g.a (message_at ts g.x)
+        (in_range_lem valid below ((is_grant (message_at ts m) f _).0 is.0).0)
 
     -- and x is the number of the X
-    pub grant_number : x ≡ number_in (terms_of ts h.terms) (message_at ts x)
-    grant_number = sym (number_here valid x (omega (arith, g.1, below)))
+    pub grant_number : g.x ≡ number_in (terms_of ts h.terms) (message_at ts g.x)
+    grant_number = sym (number_here valid g.x (omega (arith, is.1, below)))
 
-  pub delivery_key_most : (k a ts' b ta : ℕ) → delivery_in (message_at ts m) ≡ deliveries.Is k a ts' b ta → k ≤ 95
-  delivery_key_most k a ts' b ta e = (in_range_lem valid below ((is_delivery (message_at ts m) k a ts' b ta).0 e)).0.0.0
+  pub delivery_key_most : (q : Delivery) → delivery_in (message_at ts m) ≡ Some q → q.k ≤ 95
+  delivery_key_most q e = (in_range_lem valid below ((is_delivery (message_at ts m) q).0 e)).0.0.0

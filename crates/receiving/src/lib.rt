@@ -8,8 +8,8 @@ ghost use Rattle.conditions.specs.Conditions.{derivable_at};
 ghost use Rattle.decisions.specs.Decision.{issues, authenticates, takes, finishes};
 ghost use Rattle.receiving.specs.Pending.{settled};
 
-use conditions::{REFUSE_TICKET, admit, ticket_lives};
-use decisions::Verdict;
+use conditions::{admit, ticket_lives};
+use decisions::Effect;
 use exchange::form::form_of;
 use exchange::run::Row;
 use forms::{
@@ -17,95 +17,99 @@ use forms::{
     open_request,
 };
 use realm::header::Realm;
+use refusals::Refusal;
 use replay::entry::Entry;
 use rows::MAX_RUNS;
 use verdicts::{accepted, authenticated, finished, issued};
 
-pub const REFUSE_RUNS_FULL: u8 = 13;
-
-pub const REFUSE_FORM: u8 = 14;
-
-// What a step comes to, where whether the intruder can deliver its message, 15, is still open.
+// What a step comes to that nothing turns away before 15, where whether the intruder can deliver its message is still open.
 #[derive(Clone, Copy)]
 pub enum Pending {
     // This, whatever he can build.
-    Settled(Verdict),
+    Settled(Effect),
     // This where he can build the message, else 15.
-    Asked(Verdict),
+    Asked(Result<Effect, Refusal>),
 }
 
 // Step 3: the server answers a request.
-pub fn issue(h: Realm, terms: &[u64], m: u16) -> Pending
+pub fn issue(h: Realm, terms: &[u64], m: u16) -> Result<Pending, Refusal>
     requires { Valid h.n terms.now h.terms × (m < h.terms) }
     ensures { (ws : List ℕ) → settled result (derivable_at h terms.now ws m) ≡ issues h terms.now ws m }
 {
     if MAX_RUNS <= h.runs {
-        return Pending::Settled(Verdict::Refused(REFUSE_RUNS_FULL));
+        return Err(Refusal::RunsFull);
     }
-    let Request::Is { a, b, n } = open_request(terms, m) else {
-        return Pending::Settled(Verdict::Refused(REFUSE_FORM));
+    let Some(Request { a, b, n }) = open_request(terms, m) else {
+        return Err(Refusal::Form);
     };
-    if !((a != 0) & (b != 0) & (a != b)) {
-        return Pending::Settled(Verdict::Refused(REFUSE_FORM));
+    if a == 0 || b == 0 || a == b {
+        return Err(Refusal::Form);
     }
     let r = h.runs as u8;
     let initiator = a as u8;
     let responder = b as u8;
     let form = form_of(h.rules);
-    Pending::Asked(issued(h.clock, form, r, initiator, responder, n))
+    let effect = issued(h.clock, form, r, initiator, responder, n);
+    Ok(Pending::Asked(Ok(effect)))
 }
 
 // Step 4: the initiator takes the server's reply to its own request and, by the form, a term that it does not open.
-pub fn authenticate(h: Realm, terms: &[u64], run: u8, own: Row, m: u16) -> Pending
+pub fn authenticate(h: Realm, terms: &[u64], run: u8, own: Row, m: u16) -> Result<Pending, Refusal>
     requires { Valid h.n terms.now h.terms × (m < h.terms) }
     ensures { (ws : List ℕ) → settled result (derivable_at h terms.now ws m) ≡ authenticates h terms.now ws run own m }
 {
     let form = form_of(h.rules);
-    let Grant::Is { k, b, ts, n, a, x } = open_grant(form, terms, m) else {
-        return Pending::Settled(Verdict::Refused(REFUSE_FORM));
+    let Some(Grant { k, b, ts, n, a, x }) = open_grant(form, terms, m) else {
+        return Err(Refusal::Form);
     };
-    if !((b == own.b as u16) & (n == run as u16) & (a == own.a as u16)) {
-        return Pending::Settled(Verdict::Refused(REFUSE_FORM));
+    if b != own.b as u16 || n != run as u16 || a != own.a as u16 {
+        return Err(Refusal::Form);
     }
     if !ticket_lives(h, ts) {
-        return Pending::Asked(Verdict::Refused(REFUSE_TICKET));
+        return Ok(Pending::Asked(Err(Refusal::Ticket)));
     }
-    let key = k as u8;
-    Pending::Asked(authenticated(h.clock, form, run, own, key, ts, x))
+    let effect = authenticated(h.clock, form, run, own, k as u8, ts, x);
+    Ok(Pending::Asked(Ok(effect)))
 }
 
 // Step 5: the responder takes a ticket and an authenticator.
-pub fn accept(h: Realm, terms: &[u64], cache: [Entry; 16], run: u8, own: Row, m: u16) -> Pending
+pub fn accept(
+    h: Realm,
+    terms: &[u64],
+    cache: [Entry; 16],
+    run: u8,
+    own: Row,
+    m: u16,
+) -> Result<Pending, Refusal>
     requires { Valid h.n terms.now h.terms × (m < h.terms) × (h.entries ≤ 16) }
     ensures { (ws : List ℕ) → settled result (derivable_at h terms.now ws m) ≡ takes h terms.now ws cache run own m }
 {
-    let Delivery::Is { k, a, ts, b, ta } = open_delivery(terms, m) else {
-        return Pending::Settled(Verdict::Refused(REFUSE_FORM));
+    let Some(Delivery { k, a, ts, b, ta }) = open_delivery(terms, m) else {
+        return Err(Refusal::Form);
     };
-    if !((a == own.a as u16) & (b == own.b as u16)) {
-        return Pending::Settled(Verdict::Refused(REFUSE_FORM));
+    if a != own.a as u16 || b != own.b as u16 {
+        return Err(Refusal::Form);
     }
-    let number = admit(h, cache, ts, Entry { b, k, ta });
-    if number != 0 {
-        return Pending::Asked(Verdict::Refused(number));
+    if let Err(refusal) = admit(h, cache, ts, Entry { b, k, ta }) {
+        return Ok(Pending::Asked(Err(refusal)));
     }
-    let key = k as u8;
-    Pending::Asked(accepted(h.clock, run, own, key, ts, ta))
+    let effect = accepted(h.clock, run, own, k as u8, ts, ta);
+    Ok(Pending::Asked(Ok(effect)))
 }
 
 // Step 6: the initiator takes the responder's confirmation of its own values.
-pub fn finish(h: Realm, terms: &[u64], run: u8, own: Row, m: u16) -> Pending
+pub fn finish(h: Realm, terms: &[u64], run: u8, own: Row, m: u16) -> Result<Pending, Refusal>
     requires { Valid h.n terms.now h.terms × (m < h.terms) }
     ensures { (ws : List ℕ) → settled result (derivable_at h terms.now ws m) ≡ finishes h terms.now ws run own m }
 {
-    let Confirmation::Is { ta, k } = open_confirmation(terms, m) else {
-        return Pending::Settled(Verdict::Refused(REFUSE_FORM));
+    let Some(Confirmation { ta, k }) = open_confirmation(terms, m) else {
+        return Err(Refusal::Form);
     };
-    if !((ta == own.ta) & (k == own.k as u16)) {
-        return Pending::Settled(Verdict::Refused(REFUSE_FORM));
+    if ta != own.ta || k != own.k as u16 {
+        return Err(Refusal::Form);
     }
     if !ticket_lives(h, own.ts) {
-        return Pending::Asked(Verdict::Refused(REFUSE_TICKET));
+        return Ok(Pending::Asked(Err(Refusal::Ticket)));
     }
-    Pending::Asked(finished(h.clock, run, own))
+    Ok(Pending::Asked(Ok(finished(h.clock, run, own))))
 }

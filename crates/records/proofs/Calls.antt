@@ -1,11 +1,11 @@
 -- What follows from the definitions of the same name in specs/.
 -- Assumes nothing.
-use Rattle.std.specs.Prelude.{◌≡◌, ◌↔◌, List, [], ℕ, zero, suc, ◌+◌, ◌*◌, ◌≤◌, length, drop}
+use Rattle.std.specs.Prelude.{◌≡◌, ◌↔◌, Some, None, Ok, Err, List, [], ℕ, zero, suc, ◌+◌, ◌*◌, ◌≤◌, length, drop}
 use Rattle.std.proofs.Math.Path.{refl, sym}
 use Rattle.std.proofs.Common.{ap, ◌∙◌, arith, length-drop, drop-drop}
 use Rattle.exchange.specs.declared.call.Call.{Call}
 use Rattle.exchange.specs.Calls.{Sized, AllSized}
-use Rattle.records.specs.declared.record.Record.TheVariants as answer
+use Rattle.records.specs.declared.record.Record.{Record}
 use Rattle.records.specs.Fields.{Bytes}
 use Rattle.records.proofs.Fields.{begins_whole, small16, small32, drop_bytes}
 use Rattle.records.specs.Records.{term_mark, step_mark, term_bytes, step_bytes, term_call, step_call, Front, whole, none, unreadable, front_of, told, record_at, Finds, at_end, at_term, at_step, at_fault}
@@ -76,10 +76,11 @@ calls_as : (bytes : List ℕ) (f : Front) → front_of bytes ≡ f → calls_of 
 calls_as bytes f e = calls_are bytes ∙ ap (λ (o : Front). onward o (λ width. calls_of (drop width bytes))) e
 
 module _ (bytes : List ℕ) (at : ℕ) where
-  by_call : (c : Call) (next : ℕ) (f : Front) → front_of (drop at bytes) ≡ f → told at f ≡ answer.Call c next → CallAt bytes at c next
+  by_call : (c : Call) (next : ℕ) (f : Front) → front_of (drop at bytes) ≡ f → told at f ≡ Ok (Some (record { call = c; next = next })) → CallAt bytes at c next
   by_call c next (whole d width) e t =
-      let same : d ≡ c = cc in
-      let place : at + width ≡ next = cc in
+      let read : ◌≡◌ {A = Record} (record { call = d; next = at + width }) (record { call = c; next = next }) = cc in
+      let same : d ≡ c = ap (λ (r : Record). r.call) read in
+      let place : at + width ≡ next = ap (λ (r : Record). r.next) read in
       let w = front_whole (drop at bytes) d width e in
       record {
         later = omega (arith, w.least);
@@ -90,30 +91,30 @@ module _ (bytes : List ℕ) (at : ℕ) where
   by_call c next none e t = let z : ◌≡◌ {A = ℕ} 0 1 = cc in absurd (omega arith)
   by_call c next unreadable e t = let z : ◌≡◌ {A = ℕ} 0 1 = cc in absurd (omega arith)
 
-  pub record_call : (c : Call) (next : ℕ) → record_at bytes at ≡ answer.Call c next → CallAt bytes at c next
+  pub record_call : (c : Call) (next : ℕ) → record_at bytes at ≡ Ok (Some (record { call = c; next = next })) → CallAt bytes at c next
   unfolding record_at
   record_call c next e = by_call c next (front_of (drop at bytes)) refl e
 
-  by_end : (f : Front) → Finds (drop at bytes) f → told at f ≡ answer.End → length bytes ≤ at
+  by_end : (f : Front) → Finds (drop at bytes) f → told at f ≡ Ok None → length bytes ≤ at
   by_end f (at_end z) t = omega (arith, length-drop at bytes)
   by_end f (at_term h) t = let z : ◌≡◌ {A = ℕ} 0 1 = cc in absurd (omega arith)
   by_end f (at_step h) t = let z : ◌≡◌ {A = ℕ} 0 1 = cc in absurd (omega arith)
   by_end f (at_fault l m n) t = let z : ◌≡◌ {A = ℕ} 0 1 = cc in absurd (omega arith)
 
   -- reading ends at the end of the file and nowhere before
-  pub end_decided : (record_at bytes at ≡ answer.End) ↔ (length bytes ≤ at)
+  pub end_decided : (record_at bytes at ≡ Ok None) ↔ (length bytes ≤ at)
   unfolding record_at
   end_decided = (by_end (front_of (drop at bytes)) (front_finds (drop at bytes)), λ h. sym (record_end bytes at h))
 
   pub calls_end : length bytes ≤ at → calls_of (drop at bytes) ≡ record { calls = []; ending = ended }
   calls_end h = calls_as (drop at bytes) none (sym (front_none (drop at bytes) (simp length-drop (omega arith))))
 
-  by_fault : (n : ℕ) (f : Front) → front_of (drop at bytes) ≡ f → told at f ≡ answer.Refused n → Broken bytes at n
+  by_fault : (n : ℕ) (f : Front) → front_of (drop at bytes) ≡ f → told at f ≡ Err n → Broken bytes at n
   by_fault n (whole c width) e t = let z : ◌≡◌ {A = ℕ} 0 1 = cc in absurd (omega arith)
   by_fault n none e t = let z : ◌≡◌ {A = ℕ} 0 1 = cc in absurd (omega arith)
   by_fault n unreadable e t = record { number_is = cc; last = calls_as (drop at bytes) unreadable e }
 
-  pub record_refused : (n : ℕ) → record_at bytes at ≡ answer.Refused n → Broken bytes at n
+  pub record_refused : (n : ℕ) → record_at bytes at ≡ Err n → Broken bytes at n
   unfolding record_at
   record_refused n e = by_fault n (front_of (drop at bytes)) refl e
 

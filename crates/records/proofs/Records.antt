@@ -1,13 +1,12 @@
 -- What follows from the definitions of the same name in specs/.
 -- Assumes nothing.
-use Rattle.std.specs.Prelude.{◌≡◌, true, false, cond, List, ℕ, ◌-◌, ◌<◌, ◌≤◌, eqb, length, take, drop}
+use Rattle.std.specs.Prelude.{◌≡◌, None, Ok, true, false, cond, List, ℕ, ◌-◌, ◌<◌, ◌≤◌, eqb, length, take, drop}
 use Rattle.std.proofs.Math.Path.{ap}
 use Rattle.std.proofs.Common.{◌∙◌, arith, take_all}
 use borrow.Author.Tests.{eq-eqb, ne_eqb, eqb-true, eqb-false}
 use Rattle.std.proofs.Math.ListN.{length-drop}
 use Rattle.terms.proofs.Choice.{cond_elim}
 use Rattle.exchange.specs.declared.call.Call.{Call}
-use Rattle.records.specs.declared.record.Record.TheVariants as answer
 use Rattle.records.specs.Fields.{begins}
 use Rattle.records.specs.Records.{term_mark, step_mark, term_bytes, step_bytes, term_call, step_call, Front, whole, none, unreadable, front_of, told, record_at, Finds, at_end, at_term, at_step, at_fault}
 
@@ -59,7 +58,7 @@ module _ (bytes : List ℕ) (at : ℕ) where
   pub rest_some : at < length bytes → 0 < length (rest_of bytes at)
   rest_some h = rw rest_is (simp length-drop (omega arith))
 
-  pub record_end : length bytes ≤ at → answer.End ≡ record_at bytes at
+  pub record_end : length bytes ≤ at → Ok None ≡ record_at bytes at
   unfolding record_at
   record_end h = ap (told at) (front_none (drop at bytes) (simp length-drop (omega arith)))
 

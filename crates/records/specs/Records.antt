@@ -1,11 +1,10 @@
 -- A record after the header: "TM, kind (1), L (2), R (2); ST, step (1), run (1), a (1), b (1), m (2), t (4)". Refusal 3: "a mark
 -- other than TM or ST after the first record, or a record cut short".
 -- Assumes nothing.
-use Rattle.std.specs.Prelude.{◌≡◌, true, false, cond, List, ℕ, ◌+◌, ◌<◌, eqb, length, drop}
+use Rattle.std.specs.Prelude.{◌≡◌, true, false, cond, Option, Some, None, Result, Ok, Err, List, ℕ, ◌+◌, ◌<◌, eqb, length, drop}
 use Rattle.exchange.specs.declared.call.Call.{Call}
 use Rattle.exchange.specs.declared.call.Call.TheVariants.{Term, Step}
 use Rattle.records.specs.declared.record.Record.{Record}
-use Rattle.records.specs.declared.record.Record.TheVariants as answer
 use Rattle.records.specs.Fields.{byte, number16, number32, begins}
 
 -- the letters TM and ST
@@ -44,13 +43,13 @@ front_of bytes =
     unreadable))
 
 -- the same, where the rest begins at a place of the file
-abbrev pub told : ℕ → Front → Record
-told at (whole c width) = answer.Call c (at + width)
-told at none = answer.End
-told at unreadable = answer.Refused 3
+abbrev pub told : ℕ → Front → Result (Option Record) ℕ
+told at (whole c width) = Ok (Some (record { call = c; next = at + width }))
+told at none = Ok None
+told at unreadable = Err 3
 
 -- the record that begins at a place of the file
-unfoldable pub record_at : List ℕ → ℕ → Record
+unfoldable pub record_at : List ℕ → ℕ → Result (Option Record) ℕ
 record_at bytes at = told at (front_of (drop at bytes))
 
 -- ---- the ways out are all

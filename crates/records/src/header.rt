@@ -1,9 +1,11 @@
 // The header of a file: its mark, n (1 byte), flags (2 or 4, by the mark), Ls (4), La (4).
 ghost use Rattle.std.specs.Prelude.{◌≡◌, ◌≤◌, length};
 ghost use Rattle.records.specs.Headers.{lives_at, header_width, flags_in, header_by, header_of};
+ghost use Rattle.refusals.specs.Numbers.{numbered};
 
 use super::field::{u16_at, u32_at};
-use exchange::header::{Flags, Format, Header, Lookup, REFUSE_FILE, format_of};
+use exchange::header::{Flags, Format, Header, format_of};
+use refusals::Refusal;
 
 // Bytes in a file at most.
 pub const MAX_FILE: usize = 65536;
@@ -14,13 +16,6 @@ const MARK_BYTES: usize = 2;
 const FLAGS_AT: usize = 3;
 
 const LIVES_BYTES: usize = 8;
-
-// The values as they stand in the file; whether a realm can have them is refusal 2, which is not decided here.
-#[derive(Clone, Copy)]
-pub enum Heading {
-    Read(Header),
-    Refused(u8),
-}
 
 // Where the lives begin, behind the flags.
 fn lives_at(flags: Flags) -> usize
@@ -37,11 +32,11 @@ pub fn header_width(mark: u16) -> usize
     ensures { result ≡ header_width mark }
 {
     match format_of(mark) {
-        Lookup::Found(format) => {
+        Some(format) => {
             let flags = format.flags;
             lives_at(flags) + LIVES_BYTES
         }
-        Lookup::Missing => 0,
+        None => 0,
     }
 }
 
@@ -55,20 +50,21 @@ fn flags_in(file: &[u8], flags: Flags) -> u32
     }
 }
 
-// The header that a file of this format begins with, if it is whole.
-fn header_by(format: Format, file: &[u8]) -> Heading
-    ensures { result ≡ header_by format file.now }
+// The header that a file of this format begins with, if it is whole: the values as they stand in the file. Whether a realm can have
+// them is refusal 2, which is not decided here.
+fn header_by(format: Format, file: &[u8]) -> Result<Header, Refusal>
+    ensures { numbered result ≡ header_by format file.now }
 {
     let mark = format.mark;
     let width = format.flags;
     let lives = lives_at(width);
     if file.len() < lives + LIVES_BYTES {
-        return Heading::Refused(REFUSE_FILE);
+        return Err(Refusal::File);
     }
     let flags = flags_in(file, width);
     let ls = u32_at(file, lives);
     let la = u32_at(file, lives + 4);
-    Heading::Read(Header {
+    Ok(Header {
         mark,
         n: file[2],
         flags,
@@ -78,17 +74,17 @@ fn header_by(format: Format, file: &[u8]) -> Heading
 }
 
 // The header of a file, or refusal 1.
-pub fn read_header(file: &[u8]) -> Heading
-    ensures { result ≡ header_of file.now }
+pub fn read_header(file: &[u8]) -> Result<Header, Refusal>
+    ensures { numbered result ≡ header_of file.now }
 {
     if MAX_FILE < file.len() {
-        return Heading::Refused(REFUSE_FILE);
+        return Err(Refusal::File);
     }
     if file.len() < MARK_BYTES {
-        return Heading::Refused(REFUSE_FILE);
+        return Err(Refusal::File);
     }
     match format_of(u16_at(file, 0)) {
-        Lookup::Found(format) => header_by(format, file),
-        Lookup::Missing => Heading::Refused(REFUSE_FILE),
+        Some(format) => header_by(format, file),
+        None => Err(Refusal::File),
     }
 }

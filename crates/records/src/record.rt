@@ -1,9 +1,11 @@
 // A record after the header: TM, kind (1 byte), L (2), R (2); or ST, step (1), run (1), a (1), b (1), m (2), t (4).
 ghost use Rattle.std.specs.Prelude.{◌≡◌, ◌≤◌, length};
+ghost use Rattle.refusals.specs.Numbers.{numbered};
 ghost use Rattle.records.specs.Records.{term_call, step_call, record_at};
 
 use super::field::{begins_with, u16_at, u32_at};
 use exchange::call::Call;
+use refusals::Refusal;
 
 // The letters TM and ST.
 pub const TERM_MARK: u16 = 0x544D;
@@ -14,15 +16,11 @@ pub const TERM_BYTES: usize = 7;
 
 pub const STEP_BYTES: usize = 12;
 
-pub const REFUSE_RECORD: u8 = 3;
-
+// A whole record's call; the record after it begins at `next`.
 #[derive(Clone, Copy)]
-pub enum Record {
-    // A whole record; the one after it begins at `next`.
-    Call { call: Call, next: usize },
-    // The file ends here.
-    End,
-    Refused(u8),
+pub struct Record {
+    pub call: Call,
+    pub next: usize,
 }
 
 // The call of a TM record.
@@ -56,27 +54,27 @@ fn step_of(bytes: &[u8]) -> Call
     }
 }
 
-// The record that begins at `at`, or refusal 3.
-pub fn read_record(file: &[u8], at: usize) -> Record
-    ensures { result ≡ record_at file.now at }
+// The record that begins at `at`, or none where the file ends there; or refusal 3.
+pub fn read_record(file: &[u8], at: usize) -> Result<Option<Record>, Refusal>
+    ensures { numbered result ≡ record_at file.now at }
 {
     if file.len() <= at {
-        return Record::End;
+        return Ok(None);
     }
     let rest = &file[at..];
     if begins_with(rest, TERM_MARK, TERM_BYTES) {
         let call = term_of(rest);
-        return Record::Call {
+        return Ok(Some(Record {
             call,
             next: at + TERM_BYTES,
-        };
+        }));
     }
     if begins_with(rest, STEP_MARK, STEP_BYTES) {
         let call = step_of(rest);
-        return Record::Call {
+        return Ok(Some(Record {
             call,
             next: at + STEP_BYTES,
-        };
+        }));
     }
-    Record::Refused(REFUSE_RECORD)
+    Err(Refusal::Record)
 }

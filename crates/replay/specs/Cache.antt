@@ -2,12 +2,11 @@
 -- A list of places and a count stand for the entries in the first `count` places. What a call does is said of that list of
 -- entries (one is appended, or the list is filtered), and `written` says what becomes of the places. The same definitions
 -- serve sixteen places by value and a lent list: both are a list of entries here.
-use Rattle.std.specs.Prelude.{ℕ, ◌+◌, ◌-◌, Bool, false, not, ◌&&◌, ◌||◌, cond, List, [], ◌∷◌, ◌++◌, eqb, leb, length, take, drop, replicate}
-use Rattle.replay.specs.declared.cache.Swept.{Swept}
+use Rattle.std.specs.Prelude.{ℕ, ◌+◌, ◌-◌, Result, Ok, Err, Bool, false, not, ◌&&◌, ◌||◌, cond, List, [], ◌∷◌, ◌++◌, eqb, leb, length, take, drop, replicate}
+use Rattle.refusals.specs.declared.Refusal.{Refusal}
+use Rattle.refusals.specs.Numbers.{number}
 use Rattle.replay.specs.declared.entry.Entry.{Entry}
 use Rattle.replay.specs.declared.entry.Purge.{Purge}
-use Rattle.replay.specs.declared.entry.Answer.{Answer}
-use Rattle.replay.specs.declared.entry.Answer.TheVariants.{Count, Refused}
 
 -- ---- entries
 
@@ -51,6 +50,11 @@ padded count xs = xs ++ replicate (count - length xs) empty
 unfoldable pub written : List Entry → ℕ → List Entry → List Entry
 written list count xs = padded count xs ++ drop (length (padded count xs)) list
 
+-- a cache by value: the places, and how many entries there are
+pub record Swept : Type 0 where
+  pub places : List Entry
+  pub count : ℕ
+
 abbrev pub swept : List Entry → ℕ → Swept
 swept places count = record { places = places; count = count }
 
@@ -65,10 +69,19 @@ pub data CacheOutcome : Type 0 where
   refused : (number : ℕ) (list : List Entry) → CacheOutcome
   accepted : (count : ℕ) (list : List Entry) → CacheOutcome
 
--- the paper's number or value for each case of an answer, beside the list that the call leaves
-abbrev pub cache_outcome : Answer → List Entry → CacheOutcome
-cache_outcome (Count count) list = accepted count list
-cache_outcome (Refused number) list = refused number list
+-- a call after which the places and their count are these
+abbrev pub done : Swept → CacheOutcome
+done s = accepted s.count s.places
+
+-- what an answer by value comes to, of places that a refused call leaves as they were
+abbrev pub cache_outcome : Result Swept Refusal → List Entry → CacheOutcome
+cache_outcome (Ok s) list = done s
+cache_outcome (Err r) list = refused (number r) list
+
+-- what an answer comes to, beside the list that the call leaves
+abbrev pub list_outcome : Result ℕ Refusal → List Entry → CacheOutcome
+list_outcome (Ok count) list = accepted count list
+list_outcome (Err r) list = refused (number r) list
 
 -- the number of its refusal, and 0 where it is accepted
 abbrev pub number_of : CacheOutcome → ℕ
@@ -78,10 +91,6 @@ number_of (accepted count list) = 0
 -- "10 for a list or count that does not fit": other than sixteen places, or a count above sixteen
 unfoldable pub fits : List Entry → ℕ → Bool
 fits list count = eqb (length list) 16 && leb count 16
-
--- a call after which the places and their count are these
-abbrev pub done : Swept → CacheOutcome
-done s = accepted s.count s.places
 
 -- 18: "b, K, Ta is in the cache", 19: "the cache holds 16 entries"; 0 for neither
 abbrev pub cache_refusal : List Entry → ℕ → Entry → ℕ

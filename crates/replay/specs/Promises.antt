@@ -1,11 +1,9 @@
 -- What the replay cache promises. The contracts of `src/` say that each call comes to `remembered` or `forgotten`; here is what
 -- that means for the entries (one is appended, or they are filtered) and for every place of the list. Assumes nothing.
-use Rattle.std.specs.Prelude.{◌≡◌, ℕ, ◌+◌, ◌<◌, ◌≤◌, true, false, get_or, drop}
+use Rattle.std.specs.Prelude.{◌≡◌, Result, Ok, Err, ℕ, ◌+◌, ◌<◌, ◌≤◌, true, false, get_or, drop}
 use mathlib.Core.List.{List, [], ◌∷◌, ◌++◌}
 use Rattle.replay.specs.declared.entry.Entry.{Entry}
 use Rattle.replay.specs.declared.entry.Purge.{Purge}
-use Rattle.replay.specs.declared.entry.Answer.{Answer}
-use Rattle.replay.specs.declared.entry.Answer.TheVariants.{Count, Refused}
 use Rattle.replay.specs.Cache.{empty, present, kept, entries, CacheOutcome, refused, accepted, done, after_read, fits, forgotten}
 
 -- An accepted `remember`: the entry was absent and a place was left; the entry is appended, and the places behind it keep their values.
@@ -35,6 +33,6 @@ pub record OnePass (list : List Entry) (count : ℕ) (p : Purge) : Type 0 where
 
 -- ---- "Places at or past a table's count are never read": two lists with the same entries get the same answer
 
-abbrev pub answered : CacheOutcome → Answer
-answered (refused number list) = Refused number
-answered (accepted count list) = Count count
+abbrev pub answered : CacheOutcome → Result ℕ ℕ
+answered (refused number list) = Err number
+answered (accepted count list) = Ok count

@@ -3,13 +3,12 @@
 use Rattle.std.specs.Prelude.{◌≡◌, refl, List, [], ◌++◌, ℕ, ◌+◌, ◌-◌, ◌≤◌, length, drop}
 use Rattle.std.proofs.Math.Path.{sym, ap}
 use Rattle.std.proofs.Common.{◌∙◌, append_assoc, append-nil, arith, length-append}
-use Rattle.std.proofs.lemmas.List.Edits.{sets, sets-eq}
 use borrow.Rule.Slice.PartMut.{mid_of, put_mid}
 use Rattle.exchange.specs.declared.call.Call.{Call}
 use Rattle.exchange.specs.declared.call.Call.TheVariants.{Term, Step}
 use Rattle.records.specs.Calls.{Ending, Calls, calls_of, CallAt}
 use Rattle.raw_records.specs.Calls.{call_words, words_for}
-use Rattle.fields.specs.Placed.{placed, Wrote}
+use Rattle.fields.specs.Placed.{Wrote}
 use Rattle.fields.proofs.Placed.{joined, wrote_as}
 use Rattle.fields.proofs.Parts.{part_wrote, nothing_wrote}
 use Rattle.rewriting.specs.Reading.{read_outcome, answer_by, file_words, read_of}
@@ -22,10 +21,6 @@ pub record ReadProgress (from : ℕ) (file before after : List ℕ) (at end : �
   pub ending : (calls_of (drop at file)).ending ≡ (calls_of (drop from file)).ending
 
 -- ---- one record
-
-pub stored : (xs words : List ℕ) → length words ≤ length xs → Wrote xs 0 words (sets xs 0 words) (length words)
-unfolding placed
-stored xs words h = record { contents = sets-eq words xs 0 (omega arith); offset = omega arith }
 
 pub seven : (c : Call) → length (call_words c) ≡ 7
 seven (Term kind l r) = refl

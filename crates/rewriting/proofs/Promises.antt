@@ -2,11 +2,9 @@
 -- Assumes nothing.
 use Rattle.std.proofs.Math.Path.{◌≡◌, refl, sym, ap}
 use Rattle.std.proofs.Common.{◌∙◌, arith}
-use Rattle.std.specs.Prelude.{List, ℕ, length, drop, replicate}
+use Rattle.std.specs.Prelude.{Option, None, Result, Ok, Err, List, ℕ, length, drop, replicate}
 use Rattle.std.proofs.lemmas.List.{length-replicate}
 use Rattle.exchange.specs.declared.header.Header.{Header}
-use Rattle.records.specs.declared.header.Heading.{Heading}
-use Rattle.records.specs.declared.header.Heading.TheVariants as header
 use Rattle.records.specs.Fields.{Bytes}
 use Rattle.records.specs.Headers.{header_width, header_of}
 use Rattle.records.specs.Calls.{Ending, ended, broken, Calls, calls_of}
@@ -16,31 +14,26 @@ use Rattle.raw_records.specs.Refusals.{records_refusal}
 use Rattle.raw_records.specs.Calls.{words_for}
 use Rattle.raw_records.proofs.Calls.{records_for}
 use Rattle.fields.proofs.Placed.{placed_there}
-use Rattle.writer.specs.declared.walk.Filing.{Filing}
-use Rattle.writer.specs.declared.walk.Filing.TheVariants as filing
 use Rattle.writer.specs.Write.{WriteOutcome, write_outcome, write_of, WalkPasses}
 use Rattle.written_walks.proofs.Promises.{written_passes, write_back}
-use Rattle.comparison.specs.declared.Verdict.{Verdict}
-use Rattle.comparison.specs.declared.Verdict.TheVariants.{Same}
 use Rattle.comparison.specs.Compare.{difference}
 use Rattle.comparison.proofs.Promises.{itself}
-use Rattle.rewriting.specs.declared.back.Rewritten.TheVariants.{Compared}
 use Rattle.rewriting.specs.Reading.{file_words}
-use Rattle.rewriting.specs.Rewriting.{offset, places, compared, written_back, by_ending, by_header, rewritten_of}
+use Rattle.rewriting.specs.Rewriting.{offset, places, compared, compared_by, written_back, by_ending, by_header, rewritten_of}
 use Rattle.rewriting.proofs.Rewriting.{compared_is, by_ending_lem}
 use Rattle.rewriting.specs.Promises.{Writable}
 
 module _ (file : List ℕ) where
   -- ---- what was written was writable
 
-  passed : (g : Header) (words : List ℕ) (v : Verdict) (r : Filing) (after : List ℕ)
-      → write_outcome r after ≡ write_of g words (replicate places 0) offset → compared r after file ≡ Compared v
+  passed : (g : Header) (words : List ℕ) (v : Option ℕ) (r : Result ℕ ℕ) (after : List ℕ)
+      → write_outcome r after ≡ write_of g words (replicate places 0) offset → compared_by r after file ≡ compared v
       → WalkPasses g (records_of words) (length (replicate {A = ℕ} places 0)) offset
-  passed g words v (filing.Written count) after w e = written_passes g words (replicate places 0) offset count after (sym w)
-  passed g words v (filing.Refused number) after w e = let z : ◌≡◌ {A = ℕ} 0 1 = cc in absurd (omega arith)
+  passed g words v (Ok count) after w e = written_passes g words (replicate places 0) offset count after (sym w)
+  passed g words v (Err number) after w e = let z : ◌≡◌ {A = ℕ} 0 1 = cc in absurd (omega arith)
 
-  by_calls : (g : Header) (v : Verdict) → header_of file ≡ header.Read g → (e : Ending) → (calls_of (drop (header_width g.mark) file)).ending ≡ e
-      → by_ending e g file ≡ Compared v → Writable file
+  by_calls : (g : Header) (v : Option ℕ) → header_of file ≡ Ok g → (e : Ending) → (calls_of (drop (header_width g.mark) file)).ending ≡ e
+      → by_ending e g file ≡ compared v → Writable file
   unfolding written_back
   by_calls g v h ended e b =
       let calls = (calls_of (drop (header_width g.mark) file)).calls in
@@ -55,14 +48,14 @@ module _ (file : List ℕ) where
       }
   by_calls g v h broken e b = let z : ◌≡◌ {A = ℕ} 0 1 = cc in absurd (omega arith)
 
-  by_opening : (v : Verdict) (h : Heading) → header_of file ≡ h → by_header h file ≡ Compared v → Writable file
-  by_opening v (header.Read g) h b = by_calls g v h (calls_of (drop (header_width g.mark) file)).ending refl b
-  by_opening v (header.Refused number) h b = let z : ◌≡◌ {A = ℕ} 0 1 = cc in absurd (omega arith)
+  by_opening : (v : Option ℕ) (h : Result Header ℕ) → header_of file ≡ h → by_header h file ≡ compared v → Writable file
+  by_opening v (Ok g) h b = by_calls g v h (calls_of (drop (header_width g.mark) file)).ending refl b
+  by_opening v (Err number) h b = let z : ◌≡◌ {A = ℕ} 0 1 = cc in absurd (omega arith)
 
   -- ---- what is writable is written
 
   -- A writable file is written, and what was written is the file,
-  pub written_back_lem : Bytes file → Writable file → rewritten_of file ≡ Compared Same
+  pub written_back_lem : Bytes file → Writable file → rewritten_of file ≡ compared None
   written_back_lem b w =
       let most = (header_read file w.values w.reads.header).most in
       let long = length-replicate {A = ℕ} places 0 in
@@ -70,14 +63,14 @@ module _ (file : List ℕ) where
       ∙ ap (λ (cs : Calls). written_back w.values (words_for cs.calls) file) w.reads.records
       ∙ sym (compared_is w.values (words_for w.calls) file
       (sym (write_back file b w.values w.calls w.reads w.header_passes w.records_pass (replicate places 0) offset (omega (arith, most, long)))))
-      ∙ ap (λ (xs : List ℕ). Compared (difference 1 xs file)) (placed_there (replicate places 0) offset file (omega (arith, long)))
-      ∙ ap Compared (itself 1 file)
+      ∙ ap (λ (xs : List ℕ). compared (difference 1 xs file)) (placed_there (replicate places 0) offset file (omega (arith, long)))
+      ∙ ap compared (itself 1 file)
 
   -- and no other file is written.
-  pub written_only : (v : Verdict) → rewritten_of file ≡ Compared v → Writable file
+  pub written_only : (v : Option ℕ) → rewritten_of file ≡ compared v → Writable file
   unfolding rewritten_of
   written_only v e = by_opening v (header_of file) refl e
 
   -- So "a file so read is written back as the same bytes": `rewrite` never finds other bytes.
-  pub never_another : Bytes file → (v : Verdict) → rewritten_of file ≡ Compared v → v ≡ Same
+  pub never_another : Bytes file → (v : Option ℕ) → rewritten_of file ≡ compared v → v ≡ None
   never_another b v e = let same = written_back_lem b (written_only v e) in cc

@@ -1,6 +1,6 @@
 -- What follows from the definitions of the same name in specs/.
 -- Assumes nothing.
-use Rattle.std.specs.Prelude.{List, [], ◌∷◌, ◌≡◌, refl, ℕ, ◌+◌, ◌*◌, ◌≤◌, take, drop}
+use Rattle.std.specs.Prelude.{Ok, Err, List, [], ◌∷◌, ◌≡◌, refl, ℕ, ◌+◌, ◌*◌, ◌≤◌, take, drop}
 use Rattle.std.proofs.Math.Path.{ap}
 use Rattle.std.proofs.Common.{arith, length-drop, take_at}
 use Rattle.std.proofs.Math.ListN.{length}
@@ -11,7 +11,6 @@ use Rattle.records.specs.Calls.{Ending, ended, broken, calls_of}
 use Rattle.records.proofs.Promises.{calls_few}
 use Rattle.raw_records.specs.Calls.{words_for}
 use Rattle.fields.specs.Placed.{placed}
-use Rattle.rewriting.specs.declared.reading.WordsRead.TheVariants.{Count, Broken}
 use Rattle.rewriting.specs.Reading.{ReadOutcome, read_outcome, answer_by, file_words, read_of}
 
 -- ---- laws: what an answer says
@@ -32,16 +31,16 @@ pub record ReadWhole (from : ℕ) (file after : List ℕ) (count : ℕ) : Type 0
   pub count_is : count ≡ length (file_words from file)
   pub front_is : take count after ≡ file_words from file
 
-by_count : (e : Ending) (count long : ℕ) → Count count ≡ answer_by e long → (e ≡ ended) × (count ≡ long)
+by_count : (e : Ending) (count long : ℕ) → Ok count ≡ answer_by e long → (e ≡ ended) × (count ≡ long)
 by_count ended count long h = (refl, cc)
 by_count broken count long h = let z : ◌≡◌ {A = ℕ} 0 1 = cc in absurd (omega arith)
 
-by_broken : (e : Ending) (long : ℕ) → Broken ≡ answer_by e long → e ≡ broken
-by_broken ended long h = let z : ◌≡◌ {A = ℕ} 0 1 = cc in absurd (omega arith)
-by_broken broken long h = refl
+by_broken : (e : Ending) (number long : ℕ) → Err number ≡ answer_by e long → e ≡ broken
+by_broken ended number long h = let z : ◌≡◌ {A = ℕ} 0 1 = cc in absurd (omega arith)
+by_broken broken number long h = refl
 
 module _ (from : ℕ) (file words after : List ℕ) where
-  pub counted : (count : ℕ) → read_outcome (Count count) after ≡ read_of from file words → ReadWhole from file after count
+  pub counted : (count : ℕ) → read_outcome (Ok count) after ≡ read_of from file words → ReadWhole from file after count
   unfolding read_of placed
   counted count e =
       let b = by_count (calls_of (drop from file)).ending count (length (file_words from file)) (ap (λ (o : ReadOutcome). o.answer) e) in
@@ -51,6 +50,6 @@ module _ (from : ℕ) (file words after : List ℕ) where
         front_is = rw (b.1, ap (λ (o : ReadOutcome). o.words) e) (take_at (file_words from file) (drop (0 + length (file_words from file)) words) (length (file_words from file)) refl);
       }
 
-  pub broken_off : read_outcome Broken after ≡ read_of from file words → (calls_of (drop from file)).ending ≡ broken
+  pub broken_off : (number : ℕ) → read_outcome (Err number) after ≡ read_of from file words → (calls_of (drop from file)).ending ≡ broken
   unfolding read_of
-  broken_off e = by_broken (calls_of (drop from file)).ending (length (file_words from file)) (ap (λ (o : ReadOutcome). o.answer) e)
+  broken_off number e = by_broken (calls_of (drop from file)).ending number (length (file_words from file)) (ap (λ (o : ReadOutcome). o.answer) e)

@@ -1,31 +1,18 @@
 -- What follows from the definitions of the same name in specs/.
 -- Assumes nothing.
-use Rattle.std.specs.Prelude.{◌≡◌, refl, true, List, [], ◌∷◌, ◌++◌, ℕ, zero, suc, ◌<◌, ◌≤◌, ◌%◌, leb, ltb, length}
-use Rattle.std.proofs.Common.{sym, ap, ◌∙◌, arith, leb-true, ltb-true, lt-ltb, drop_of_length-le}
-use Rattle.std.proofs.lemmas.List.Edits.{sets, sets-eq}
+use Rattle.std.specs.Prelude.{◌≡◌, refl, true, List, [], ◌∷◌, ℕ, zero, suc, ◌<◌, ◌%◌, leb, ltb, length}
+use Rattle.std.proofs.Common.{sym, arith, leb-true, ltb-true, lt-ltb}
 use Rattle.terms.proofs.Choice.{no_true}
 use Rattle.exchange.specs.declared.run.Role.{Role}
 use Rattle.exchange.specs.declared.run.Role.TheVariants.{Initiator, Responder, Server}
 use Rattle.exchange.specs.declared.run.Stage.{Stage}
 use Rattle.exchange.specs.declared.run.Stage.TheVariants.{Opened, Authenticated, Done}
 use Rattle.exchange.specs.declared.run.Row.{Row}
-use Rattle.exchange.specs.Needs.{role_number, stage_number}
+use Rattle.exchange.specs.Needs.{role_number, stage_number, is_known}
 use Rattle.terms.proofs.AllOf.{five, all_five}
-use Rattle.rows.specs.Row.{width, by_number, role_of, stage_of, words_of, row_of, is_known, is_row, Fits}
+use Rattle.rows.specs.Row.{width, by_number, role_of, stage_of, words_of, row_of, is_row, Fits}
 
 -- ---- laws
-
-pub by_number_third : {A : Type 0} (w : ℕ) (x y z : A) → (w ≡ 1 → ⊥) → (w ≡ 2 → ⊥) → z ≡ by_number w x y z
-by_number_third zero x y z p q = refl
-by_number_third (suc zero) x y z p q = absurd (p refl)
-by_number_third (suc (suc zero)) x y z p q = absurd (q refl)
-by_number_third (suc (suc (suc w))) x y z p q = refl
-
--- the words fill a row's place, whatever stood there
-pub words_set : (x : Row) (l : List ℕ) → length l ≡ width → sets l 0 (words_of x) ≡ words_of x
-words_set x l e =
-    let le : length l ≤ width = omega arith in
-    sets-eq (words_of x) l 0 (omega arith) ∙ ap (λ (t : List ℕ). words_of x ++ t) (drop_of_length-le l le)
 
 pub row_fits : (ws : List ℕ) → Fits (row_of ws)
 row_fits ws = record { a = omega arith; b = omega arith; k = omega arith }

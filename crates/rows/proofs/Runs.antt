@@ -25,9 +25,6 @@ module _ (runs : List ℕ) (r : ℕ) where
   part_width : r * width + width - r * width ≡ width
   part_width = omega arith
 
-  pub words_part : take (r * width + width - r * width) (drop (r * width) runs) ≡ words_at runs r
-  words_part = rw part_width
-
   pub written_part : (x : Row) (ws : List ℕ) → ws ≡ words_of x → put_mid (r * width) (r * width + width - r * width) runs ws ≡ set_run runs r x
   unfolding set_run
   written_part x ws e = rw (part_width, e, drop-drop)

@@ -1,13 +1,13 @@
 -- A row of the table of runs as seven words: role, stage, a, b, k, ts, ta (document 01, "Steps": "each with role, parties a
 -- and b, stage, and once taken K, Ts, Ta"). Any seven words are read as a row; `is_row` says whether they are those of one.
 -- Assumes nothing.
-use Rattle.std.specs.Prelude.{Bool, ◌&&◌, List, [], ◌∷◌, ℕ, zero, suc, ◌<◌, ◌%◌, leb, ltb, get_or}
+use Rattle.std.specs.Prelude.{Bool, ◌&&◌, List, [], ◌∷◌, ℕ, zero, suc, ◌<◌, ◌%◌, ltb, get_or}
 use Rattle.exchange.specs.declared.run.Role.{Role}
 use Rattle.exchange.specs.declared.run.Role.TheVariants.{Initiator, Responder, Server}
 use Rattle.exchange.specs.declared.run.Stage.{Stage}
 use Rattle.exchange.specs.declared.run.Stage.TheVariants.{Opened, Authenticated, Done}
 use Rattle.exchange.specs.declared.run.Row.{Row}
-use Rattle.exchange.specs.Needs.{role_number, stage_number}
+use Rattle.exchange.specs.Needs.{role_number, stage_number, is_known}
 
 -- ---- definitions
 
@@ -44,10 +44,6 @@ row_of ws =
       ts = get_or ws 5 0;
       ta = get_or ws 6 0;
     }
-
--- the number of a role or a stage
-abbrev pub is_known : ℕ → Bool
-is_known w = leb 1 w && leb w 3
 
 -- the words are those of a row
 abbrev pub is_row : List ℕ → Bool

@@ -2,9 +2,8 @@
 // 7 * r. Nothing else knows how a row lies in the table.
 #![tactic(auto)]
 
-ghost use Rattle.std.specs.Prelude.{◌≡◌, ◌<◌, length};
-ghost use Rattle.exchange.specs.Needs.{role_number, stage_number};
-ghost use Rattle.rows.specs.Row.{width, role_of, stage_of, row_of, words_of, is_row};
+ghost use Rattle.std.specs.Prelude.{◌≡◌, ◌<◌};
+ghost use Rattle.rows.specs.Row.{row_of, words_of, is_row};
 ghost use Rattle.rows.specs.Runs.{Full, words_at, run_at, set_run};
 
 use exchange::run::{Role, Row, Stage};
@@ -18,105 +17,56 @@ pub const MAX_RUNS: usize = 64;
 // Words in a table.
 pub const RUN_WORDS: usize = MAX_RUNS * ROW_WORDS;
 
-// Roles and stages are numbered from 1; any other word is read as the last.
-fn role_of(word: u32) -> Role
-    ensures { result ≡ role_of word }
+// The row of seven words. A number that names no role or stage is read as the last.
+fn decode(words: [u32; ROW_WORDS]) -> Row
+    ensures { result ≡ row_of words }
 {
-    match word {
-        1 => Role::Initiator,
-        2 => Role::Responder,
-        _ => Role::Server,
-    }
-}
-
-fn stage_of(word: u32) -> Stage
-    ensures { result ≡ stage_of word }
-{
-    match word {
-        1 => Stage::Opened,
-        2 => Stage::Authenticated,
-        _ => Stage::Done,
-    }
-}
-
-fn role_word(role: Role) -> u32
-    ensures { result ≡ role_number role }
-{
-    match role {
-        Role::Initiator => 1,
-        Role::Responder => 2,
-        Role::Server => 3,
-    }
-}
-
-fn stage_word(stage: Stage) -> u32
-    ensures { result ≡ stage_number stage }
-{
-    match stage {
-        Stage::Opened => 1,
-        Stage::Authenticated => 2,
-        Stage::Done => 3,
-    }
-}
-
-// The row of seven words.
-fn decode(words: &[u32]) -> Row
-    requires { length words.now ≡ width }
-    ensures { result ≡ row_of words.now }
-{
-    let role = role_of(words[0]);
-    let stage = stage_of(words[1]);
+    let [role, stage, a, b, k, ts, ta] = words;
     Row {
-        role,
-        stage,
-        a: (words[2] % 256) as u8,
-        b: (words[3] % 256) as u8,
-        k: (words[4] % 256) as u8,
-        ts: words[5],
-        ta: words[6],
+        role: Role::try_from(role).unwrap_or(Role::Server),
+        stage: Stage::try_from(stage).unwrap_or(Stage::Done),
+        a: (a % 256) as u8,
+        b: (b % 256) as u8,
+        k: (k % 256) as u8,
+        ts,
+        ta,
     }
 }
 
-// Writes a row's seven words.
-fn encode(words: &mut [u32], row: Row)
-    requires { length words.old ≡ width }
-    ensures { words.new ≡ words_of row }
+// A row's seven words.
+fn encode(row: Row) -> [u32; ROW_WORDS]
+    ensures { result ≡ words_of row }
 {
-    let role = row.role;
-    let stage = row.stage;
-    words[0] = role_word(role);
-    words[1] = stage_word(stage);
-    words[2] = row.a as u32;
-    words[3] = row.b as u32;
-    words[4] = row.k as u32;
-    words[5] = row.ts;
-    words[6] = row.ta;
+    [
+        row.role.into(),
+        row.stage.into(),
+        row.a.into(),
+        row.b.into(),
+        row.k.into(),
+        row.ts,
+        row.ta,
+    ]
 }
 
 // Whether seven words are those of a row: a known role and stage, bytes where a row has bytes.
-fn is_row(words: &[u32]) -> bool
-    requires { length words.now ≡ width }
-    ensures { result ≡ is_row words.now }
+fn is_row(words: [u32; ROW_WORDS]) -> bool
+    ensures { result ≡ is_row words }
 {
-    let role = words[0];
-    let stage = words[1];
-    ((1 <= role) & (role <= 3))
-        & ((1 <= stage) & (stage <= 3))
-        & (words[2] < 256)
-        & (words[3] < 256)
-        & (words[4] < 256)
+    let [role, stage, a, b, k, ..] = words;
+    Role::try_from(role).is_ok() && Stage::try_from(stage).is_ok() && a < 256 && b < 256 && k < 256
 }
 
 // The words of row r.
-fn words_at(runs: &[u32], r: usize) -> &[u32]
+fn words_at(runs: &[u32], r: usize) -> [u32; ROW_WORDS]
     requires { (r < 64) × Full runs.now }
-    ensures { result.now ≡ words_at runs.now r }
+    ensures { result ≡ words_at runs.now r }
 {
     let at = r * ROW_WORDS;
-    &runs[at..at + ROW_WORDS]
+    runs[at..at + ROW_WORDS].try_into().unwrap()
 }
 
 // Row r.
+#[tactic(auto, unfolding(crate::specs::Runs::run_at))]
 pub fn run_at(runs: &[u32], r: usize) -> Row
     requires { (r < 64) × Full runs.now }
     ensures { result ≡ run_at runs.now r }
@@ -130,7 +80,7 @@ pub fn set_run(runs: &mut [u32], r: usize, row: Row)
     ensures { runs.new ≡ set_run runs.old r row }
 {
     let at = r * ROW_WORDS;
-    encode(&mut runs[at..at + ROW_WORDS], row);
+    runs[at..at + ROW_WORDS].copy_from_slice(&encode(row));
 }
 
 // Whether the words of row r are those of a row.

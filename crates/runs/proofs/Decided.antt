@@ -1,12 +1,10 @@
 -- The test of a lent table of runs is true exactly where the table holds together, part by part: `x-is` and `x-are` go from the
 -- test to the record, `is_x` and `are-x` from the record to the test.
 -- Assumes nothing.
-use Rattle.std.specs.Prelude.{◌≡◌, refl, Bool, false, not, ◌&&◌, List, ℕ, ◌*◌, ◌<◌, ◌≤◌, ltb, leb, eqb, length}
-use Rattle.std.proofs.Common.{sym, ap, ◌∙◌, arith}
+use Rattle.std.specs.Prelude.{◌≡◌, refl, Bool, false, not, List, ℕ, ◌*◌, ◌<◌, ◌≤◌, ltb, leb, eqb, length, Option, Some, None}
+use Rattle.std.proofs.Common.{sym, ap, ◌∙◌, arith, ◌⊎◌, inl, inr}
 use Rattle.std.proofs.Math.Bool.{true}
 use borrow.Author.Tests.{ltb-true, leb-true, eqb-true, eqb-false, not-true, lt-ltb, le-leb, eq-eqb, ne_eqb}
-use Rattle.terms.specs.declared.table.Found.{Found}
-use Rattle.terms.specs.declared.table.Found.TheVariants.{At, Nothing}
 use Rattle.words.specs.declared.Term.TheVariants.{SessionKey}
 use Rattle.terms.proofs.Choice.{no_true, is_false}
 use Rattle.terms.specs.Table.{find_of}
@@ -26,28 +24,25 @@ use Rattle.runs.specs.Lent.{has_stage, PrincipalsFit, KeyStands, RunHolds, Writt
 
 -- ---- the key
 
-pub key_found : (ts : List ℕ) (count k : ℕ) (f : Found) → find_of ts count (word_of (SessionKey k)) ≡ f → key_stands ts count k ≡ not (is_nothing f)
+pub key_found : (ts : List ℕ) (count k : ℕ) (f : Option ℕ) → find_of ts count (word_of (SessionKey k)) ≡ f → key_stands ts count k ≡ not (is_nothing f)
 unfolding key_stands
-key_found ts count k f e = ap (λ (g : Found). not (is_nothing g)) e
+key_found ts count k f e = ap (λ (g : Option ℕ). not (is_nothing g)) e
 
 key_is : (ts : List ℕ) (count k : ℕ) → key_stands ts count k ≡ true → KeyStands ts count k
 key_is ts count k h = by_found (find_of ts count (word_of (SessionKey k))) refl
   where
-    by_found : (f : Found) → find_of ts count (word_of (SessionKey k)) ≡ f → KeyStands ts count k
-    by_found (At i) e = let s = found_at ts count (word_of (SessionKey k)) e in record { place = i; below = s.0; here = s.1 }
-    by_found Nothing e = no_true (sym (key_found ts count k Nothing e) ∙ h)
+    by_found : (f : Option ℕ) → find_of ts count (word_of (SessionKey k)) ≡ f → KeyStands ts count k
+    by_found (Some i) e = let s = found_at ts count (word_of (SessionKey k)) e in record { place = i; below = s.0; here = s.1 }
+    by_found None e = no_true (sym (key_found ts count k None e) ∙ h)
 
 is_key_lem : {ts : List ℕ} {count k : ℕ} → KeyStands ts count k → key_stands ts count k ≡ true
 is_key_lem {ts} {count} {k} s = by_found (find_of ts count (word_of (SessionKey k))) refl
   where
-    by_found : (f : Found) → find_of ts count (word_of (SessionKey k)) ≡ f → key_stands ts count k ≡ true
-    by_found (At i) e = key_found ts count k (At i) e
-    by_found Nothing e = absurd (found_at ts count (word_of (SessionKey k)) e s.place s.below s.here)
+    by_found : (f : Option ℕ) → find_of ts count (word_of (SessionKey k)) ≡ f → key_stands ts count k ≡ true
+    by_found (Some i) e = key_found ts count k (Some i) e
+    by_found None e = absurd (found_at ts count (word_of (SessionKey k)) e s.place s.below s.here)
 
 module _ (ts : List ℕ) (present r k : ℕ) where
-  pub key_of_server : (role : Role) {s : Bool} → role ≡ Server → s ≡ key_stands ts present k → (eqb k r && s) ≡ key_holds ts present r role k
-  key_of_server role e h = rw (e, h)
-
   server_is : (role : Role) → key_holds ts present r role k ≡ true → role ≡ Server → (k ≡ r) × KeyStands ts present k
   server_is Initiator h e = let z : ◌≡◌ {A = ℕ} 0 1 = cc in absurd (omega arith)
   server_is Responder h e = let z : ◌≡◌ {A = ℕ} 0 1 = cc in absurd (omega arith)
@@ -149,6 +144,17 @@ module _ (n : ℕ) (runs : List ℕ) (count : ℕ) (ts : List ℕ) (present : �
 
   pub refused : (RowsHold n runs count ts present → ⊥) → false ≡ rows_hold n runs count ts present
   refused f = is_false (rows_hold n runs count ts present) (λ e. f (rows_are e))
+
+  pub held : Full runs → count ≤ 64 → present ≤ length ts → {r : Bool} → r ≡ each (row_holds n runs ts present) count → r ≡ rows_hold n runs count ts present
+  unfolding rows_hold
+  held size room terms_room e = rw (eq-eqb (length runs) (64 * width) size, le-leb count 64 room, le-leb present (length ts) terms_room) e
+
+  -- one of the first three tests fails
+  pub not_held : (length runs ≡ 448 × count ≤ 64 × length ts < present) ⊎ ((length runs ≡ 448 × 64 < count) ⊎ (length runs ≡ 448 → ⊥))
+      → false ≡ rows_hold n runs count ts present
+  not_held (inl p) = refused (λ v. omega (arith, p.2, v.terms_room))
+  not_held (inr (inl p)) = refused (λ v. omega (arith, p.1, v.room))
+  not_held (inr (inr f)) = refused (λ v. f v.size)
 
   pub all_hold : Full runs → count ≤ 64 → present ≤ length ts → ((r : ℕ) → r < count → row_holds n runs ts present r ≡ true)
       → rows_hold n runs count ts present ≡ true

@@ -1,7 +1,7 @@
 -- Where entering messages takes more than 512 terms, so does adding them to the messages that the terms stand for. The laws
 -- on `entered` are for lists that fit in a word's fields, so this goes by the part at which the list outgrows the table.
 -- Assumes nothing.
-use Rattle.std.specs.Prelude.{◌≡◌, ℕ, suc, ◌<◌, ◌≤◌}
+use Rattle.std.specs.Prelude.{◌≡◌, ℕ, suc, ◌<◌, ◌≤◌, Option, Some, None}
 use Rattle.std.proofs.Common.{sym, ap, ◌∙◌, length-append}
 use Rattle.std.proofs.Math.Path.{subst}
 use mathlib.Core.List.{List, [], ◌∷◌}
@@ -9,8 +9,6 @@ use Rattle.std.proofs.Math.Logic.{dite, ite}
 use Rattle.std.proofs.Math.Decide.{dec_le}
 use native.Mathlib.Omega.{arith}
 use Rattle.std.proofs.Math.ListN.{length}
-use Rattle.terms.specs.declared.table.Found.{Found}
-use Rattle.terms.specs.declared.table.Found.TheVariants.{At, Nothing}
 use Rattle.drafts.specs.Writes.{Writes}
 use Rattle.terms.specs.Message.{Message, principal, time, nonce, key, pair, encrypted}
 use Rattle.terms.specs.Number.{word_in}
@@ -48,9 +46,9 @@ add_all_grows (m ∷ ms) l = omega (arith, add_grows m l, add_all_grows ms (add 
 
 -- ---- a word makes a list longer by one at most
 
-one_by : (xs : List ℕ) (w : ℕ) (f : Found) → length (with_by xs w f) ≤ suc (length xs)
-one_by xs w (At i) = omega arith
-one_by xs w Nothing = omega (arith, length-append xs (w ∷ []))
+one_by : (xs : List ℕ) (w : ℕ) (f : Option ℕ) → length (with_by xs w f) ≤ suc (length xs)
+one_by xs w (Some i) = omega arith
+one_by xs w None = omega (arith, length-append xs (w ∷ []))
 
 one_more : (xs : List ℕ) (m : Message) → length (with_term xs m) ≤ suc (length xs)
 unfolding with_word

@@ -1,6 +1,6 @@
 -- The plan of two nodes, one after the other, and what comes of it: the law by which `plan_messages` meets its contract.
 -- Assumes nothing.
-use Rattle.std.specs.Prelude.{◌≡◌, refl, Bool, true, false, cond, ℕ, ◌+◌, ◌<◌, ◌≤◌, leb, length}
+use Rattle.std.specs.Prelude.{◌≡◌, refl, Option, Some, None, Bool, true, false, cond, ℕ, ◌+◌, ◌<◌, ◌≤◌, leb, length}
 use Rattle.std.proofs.Common.{sym, ap, ap₂, ◌∙◌, add-zero, arith, le-leb, take-append-drop}
 use Rattle.std.proofs.Math.Path.{subst}
 use mathlib.Core.List.{List, [], ◌∷◌, append-nil}
@@ -13,23 +13,22 @@ use Rattle.drafts.specs.declared.Node.{Node}
 use Rattle.messages.specs.Entered.{entered}
 use Rattle.messages.specs.Lent.{over}
 use Rattle.messages.proofs.LentLaws.{start_ready, start_planned}
-use Rattle.messages.specs.Plan.{Plan, known, drafted, Ready, NodePlanned, with_plan}
-use Rattle.messages.proofs.PlanLaws.{empty_plan}
+use Rattle.messages.specs.declared.plan.Plan.{Plan}
+use Rattle.messages.specs.Plan.{empty_plan, known, drafted, Ready, NodePlanned, with_plan}
 use Rattle.messages.proofs.Planning.{few, known_length}
 use Rattle.messages.proofs.Standing.{entered_is, longer_entered, standing_here, standing_longer}
 use Rattle.marks.specs.Marks.{with_mark}
 use Rattle.sending.specs.declared.Marks.{Marks}
-use Rattle.sending.specs.declared.Marks.TheVariants.{Two, Nothing}
 use Rattle.sending.specs.declared.Prepared.{Prepared}
 use Rattle.sending.proofs.Entering.{number_longer}
 use Rattle.sending.specs.Send.{entered_all, marked_all, fits_in, MarksFit, marked_by, comes, Plannable, PlanFor, sent, refused, sending, send_of}
 use Rattle.sending.proofs.Accepted.{send_nothing}
 
-module _ {ts : List ℕ} {count : ℕ} {draft : List Node} {first last : ℕ} (s : Plannable ts count draft first last) {words : List ℕ} where
-  pub ready : length words ≡ 32 → Ready ts count draft (empty_plan words)
-  ready places = start_ready s.small (valid_holds s.table) s.fits places
+module _ {ts : List ℕ} {count : ℕ} {draft : List Node} {first last : ℕ} (s : Plannable ts count draft first last) where
+  pub ready : Ready ts count draft empty_plan
+  ready = start_ready s.small (valid_holds s.table) s.fits
 
-  module _ {i : ℕ} {q : Plan} (one : NodePlanned ts count draft first (empty_plan words) i q) {j : ℕ} {r : Plan} (two : NodePlanned ts count draft last q j r) where
+  module _ {i : ℕ} {q : Plan} (one : NodePlanned ts count draft first empty_plan i q) {j : ℕ} {r : Plan} (two : NodePlanned ts count draft last q j r) where
     half : known ts count q ≡ entered (terms_of ts count) (drafted ts draft first)
     half = start_planned one
 
@@ -69,7 +68,7 @@ module _ {ts : List ℕ} {count : ℕ} {draft : List Node} {first last : ℕ} (s
           last_below = omega (arith, B.below);
         }
 
-    pub both_planned : PlanFor ts count (drafted ts draft first ∷ drafted ts draft last ∷ []) r.words (record { count = r.count; marks = Two i j })
+    pub both_planned : PlanFor ts count (drafted ts draft first ∷ drafted ts draft last ∷ []) r.words (record { count = r.count; marks = Some (record { first = i; last = j }) })
     unfolding send_of
     both_planned =
         record {
@@ -78,27 +77,27 @@ module _ {ts : List ℕ} {count : ℕ} {draft : List Node} {first last : ℕ} (s
           marks = λ le. (omega (arith, numbers.first_below), omega (arith, numbers.last_below));
           sends = λ ws.
               subst
-              (λ (xs : List ℕ). comes ts ws count r.words (record { count = r.count; marks = Two i j })
+              (λ (xs : List ℕ). comes ts ws count r.words (record { count = r.count; marks = Some (record { first = i; last = j }) })
               ≡ sending ts ws xs (drafted ts draft first ∷ drafted ts draft last ∷ [])) all
               (rw length_all
-              (ap₂ (λ (x y : ℕ). comes ts ws count r.words (record { count = r.count; marks = Two x y })) numbers.first_is numbers.last_is));
+              (ap₂ (λ (x y : ℕ). comes ts ws count r.words (record { count = r.count; marks = Some (record { first = x; last = y }) })) numbers.first_is numbers.last_is));
         }
 
 -- ---- the marks of a plan
 
-module _ {m : Marks} {i j : ℕ} (e : m ≡ Two i j) where
-  pub two_fit : MarksFit m → (i < 512) × (j < 512)
+module _ {m : Option Marks} {x : Marks} (e : m ≡ Some x) where
+  pub two_fit : MarksFit m → (x.first < 512) × (x.last < 512)
   two_fit fits = subst MarksFit e fits
 
-  pub two_marked : (ws : List ℕ) {xs ys : List ℕ} → xs ≡ with_mark ws i → ys ≡ with_mark xs j → ys ≡ marked_by m ws
-  two_marked ws p q = rw e (q ∙ ap (λ (x : List ℕ). with_mark x j) p)
+  pub two_marked : (ws : List ℕ) {xs ys : List ℕ} → xs ≡ with_mark ws x.first → ys ≡ with_mark xs x.last → ys ≡ marked_by m ws
+  two_marked ws p q = rw e (q ∙ ap (λ (w : List ℕ). with_mark w x.last) p)
 
-pub none_marked : {m : Marks} → m ≡ Nothing → (ws : List ℕ) → ws ≡ marked_by m ws
+pub none_marked : {m : Option Marks} → m ≡ None → (ws : List ℕ) → ws ≡ marked_by m ws
 none_marked e ws = rw e
 
 -- where nothing is sent nothing is planned
 module _ (ts : List ℕ) (count : ℕ) (size : length ts ≡ 512) (room : count ≤ 512) where
-  pub nothing_planned : {words : List ℕ} → length words ≡ 32 → PlanFor ts count [] words (record { count = 0; marks = Nothing })
+  pub nothing_planned : {words : List ℕ} → length words ≡ 32 → PlanFor ts count [] words (record { count = 0; marks = None })
   nothing_planned places =
       record {
         places = places;

@@ -1,7 +1,7 @@
 -- Sending (document 01, "Steps": "'Sends' puts the term on the wire, a set of term numbers"). What a step sends is a list of
 -- messages: their terms are entered one message after another, and where they do not all fit nothing changes.
 -- Assumes nothing.
-use Rattle.std.specs.Prelude.{◌≡◌, Bool, true, cond, ◌↔◌, ◌⊎◌, ℕ, ◌+◌, ◌<◌, ◌≤◌, leb, length, drop}
+use Rattle.std.specs.Prelude.{◌≡◌, Option, Some, None, Bool, true, cond, ◌↔◌, ◌⊎◌, ℕ, ◌+◌, ◌<◌, ◌≤◌, leb, length, drop}
 use mathlib.Core.List.{List, [], ◌∷◌, Memᴰ}
 use Rattle.drafts.specs.declared.Node.{Node}
 use Rattle.drafts.specs.Draft.{draft_fits}
@@ -20,7 +20,6 @@ use Rattle.messages.specs.Standing.{Standing}
 use Rattle.deduction.specs.Known.{Known}
 use Rattle.messages.specs.Plan.{with_plan}
 use Rattle.sending.specs.declared.Marks.{Marks}
-use Rattle.sending.specs.declared.Marks.TheVariants.{Two, Nothing}
 use Rattle.sending.specs.declared.Prepared.{Prepared}
 
 -- ---- what is sent
@@ -55,13 +54,13 @@ send_of ts ws count ms = sending ts ws (entered_all (terms_of ts count) ms) ms
 
 -- ---- a plan
 
-abbrev pub MarksFit : Marks → Type 0
-MarksFit (Two first last) = (first < 512) × (last < 512)
-MarksFit Nothing = Unit {0}
+abbrev pub MarksFit : Option Marks → Type 0
+MarksFit (Some m) = (m.first < 512) × (m.last < 512)
+MarksFit None = Unit {0}
 
-abbrev pub marked_by : Marks → List ℕ → List ℕ
-marked_by (Two first last) ws = with_mark (with_mark ws first) last
-marked_by Nothing ws = ws
+abbrev pub marked_by : Option Marks → List ℕ → List ℕ
+marked_by (Some m) ws = with_mark (with_mark ws m.first) m.last
+marked_by None ws = ws
 
 -- what comes of writing the planned words, unless they are too many
 abbrev pub comes : (ts ws : List ℕ) (count : ℕ) (words : List ℕ) → Prepared → Sending

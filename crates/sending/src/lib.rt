@@ -10,20 +10,20 @@ ghost use Rattle.terms.specs.Meaning.{message_at};
 
 use drafts::Node;
 use marks::mark;
-use messages::plan::{plan_node, write_plan};
+use messages::plan::{Plan, write_plan};
 
 // The numbers of the messages that go onto the wire.
-#[derive(Clone, Copy)]
-pub enum Marks {
-    Two { first: u16, last: u16 },
-    Nothing,
+#[derive(Clone, Copy, Debug, PartialEq, Eq)]
+pub struct Marks {
+    pub first: u16,
+    pub last: u16,
 }
 
 // What sending writes beside the planned words: how many they are, and marks.
-#[derive(Clone, Copy)]
+#[derive(Clone, Copy, Debug, PartialEq, Eq)]
 pub struct Prepared {
     pub count: usize,
-    pub marks: Marks,
+    pub marks: Option<Marks>,
 }
 
 // Plans the messages of two nodes of a draft in `words`; a step that sends one message names its node twice.
@@ -38,15 +38,14 @@ pub fn plan_messages(
     requires { Plannable terms.now count draft first last × (length words.old ≡ 32) }
     ensures { PlanFor terms.now count (draft_message (message_at terms.now) draft first ∷ draft_message (message_at terms.now) draft last ∷ []) words.new result }
 {
-    let mut numbers = [0u16; 16];
-    let one = plan_node(terms, count, draft, first, words, &mut numbers, 0);
-    let two = plan_node(terms, count, draft, last, words, &mut numbers, one.count);
+    let mut plan = Plan::new();
+    let first = plan.add_node(terms, count, draft, first);
+    let last = plan.add_node(terms, count, draft, last);
+    // What is prepared is told apart from the words: deciding lends them on as a slice, and writing takes them back as one.
+    words.copy_from_slice(&plan.words);
     Prepared {
-        count: two.count,
-        marks: Marks::Two {
-            first: one.number,
-            last: two.number,
-        },
+        count: plan.count,
+        marks: Some(Marks { first, last }),
     }
 }
 
@@ -61,10 +60,9 @@ pub fn write_messages(
     requires { (length terms.old ≡ 512) × (length wire.old ≡ 8) × (count + prepared.count ≤ 512) × (prepared.count ≤ length words.now) × MarksFit prepared.marks }
     ensures { (terms.new ≡ with_plan terms.old count words.now prepared.count) × (wire.new ≡ marked_by prepared.marks wire.old) }
 {
-    let marks = prepared.marks;
     write_plan(terms, count, words, prepared.count);
-    if let Marks::Two { first, last } = marks {
-        mark(wire, first as usize);
-        mark(wire, last as usize);
+    if let Some(marks) = prepared.marks {
+        mark(wire, marks.first as usize);
+        mark(wire, marks.last as usize);
     }
 }

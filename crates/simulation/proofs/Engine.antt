@@ -1,6 +1,6 @@
 -- What follows from the definitions of the same name in specs/.
 -- Assumes nothing.
-use Rattle.std.specs.Prelude.{ℕ, ◌-◌, ◌^◌, ◌<◌, ◌≡◌, true, false, List, [], ◌∷◌, map}
+use Rattle.std.specs.Prelude.{ℕ, ◌-◌, ◌^◌, ◌<◌, ◌≡◌, true, false, List, [], ◌∷◌, map, Ok, Err}
 use Rattle.std.proofs.Math.Path.{refl, subst}
 use Rattle.std.proofs.Common.{sym, ap, ◌∙◌, arith}
 use Rattle.words.specs.Word.{packed}
@@ -27,16 +27,13 @@ use Rattle.kerberos.specs.Rules.{Takes}
 use Rattle.kerberos.proofs.Theorems.{rules_read}
 use Rattle.realm.specs.declared.input.Step.{Step}
 use Rattle.realm.specs.Fields.{call_of}
-use Rattle.realm.specs.declared.header.Opening.TheVariants.{Open}
 use Rattle.realm.specs.declared.header.Realm as realms
 use Rattle.realm.specs.New.{Lends}
 use Rattle.realm.proofs.New.{opened_is, new_together}
 use Rattle.exchange.specs.declared.header.Header.{Header}
 use Rattle.realm.specs.Opening.{header, new_realm, opening_of}
 use Rattle.realm.specs.Tables.{Tables}
-use Rattle.decisions.specs.declared.Verdict.{Verdict}
-use Rattle.decisions.specs.declared.Verdict.TheVariants as verdicts
-use Rattle.decisions.specs.Decision.{decision}
+use Rattle.decisions.specs.Decision.{decision, Verdict}
 use Rattle.decisions.proofs.Laws.Verdict.{decision_takes}
 use Rattle.effects.specs.Apply.{applied}
 use Rattle.simulation.proofs.Follows.{refused_agrees}
@@ -67,22 +64,22 @@ acted ρ a = record { log = a ∷ ρ.log; terms = add_all a.1 ρ.terms }
 module _ {R : Realm} {t : Tables} {ρ : Reading Event} (f : Follows R t ρ) (s : Step) where
   by_verdict_lem : (v : Verdict) → decision t s ≡ v → Matches R (by_verdict t v).tables (read (set_of R) (accepts (by_verdict t v).answer) (call_of s) ρ)
   unfolding applied
-  by_verdict_lem (verdicts.Takes x) d =
+  by_verdict_lem (Ok x) d =
       let p = (decision_takes t s d).0 in
       let o = step_sends t s d in
       subst (λ (a : Act). Matches R (applied t x).tables (acted ρ a)) (sym (rules_read ρ (step_taken f.together s p o f.header_is ρ f.agrees)))
       (record { header_is = f.header_is; agrees = step_agrees f.together s p o f.header_is ρ f.agrees })
-  by_verdict_lem (verdicts.Refused k) d = kept (call_of s) f
+  by_verdict_lem (Err k) d = kept (call_of s) f
 
   pub step_matches : Matches R (stepped t s).tables (read (set_of R) (accepts (stepped t s).answer) (call_of s) ρ)
   unfolding stepped
   step_matches = by_verdict_lem (decision t s) refl
 
   verdict_takes : (v : Verdict) → decision t s ≡ v → accepts (by_verdict t v).answer ≡ true → Taken (set_of R) R ρ (call_of s)
-  verdict_takes (verdicts.Takes x) d a =
+  verdict_takes (Ok x) d a =
       let k = step_taken f.together s (decision_takes t s d).0 (step_sends t s d) f.header_is ρ f.agrees in
       subst (Takes (form_of R.rules) R ρ.terms ρ.log (call_of s)) (sym (rules_read ρ k)) k
-  verdict_takes (verdicts.Refused k) d a = no_true a
+  verdict_takes (Err k) d a = no_true a
 
 -- ---- a term
 
@@ -124,7 +121,7 @@ call_takes t ρ (calls.Step step run x y m time) size f a =
 -- ---- a new realm
 
 -- what a caller lends for a realm that `open_realm` gave is a new realm
-pub opened_new : (g : Header) (h : realms.Realm) (t : Tables) → g.ls < 2 ^ 32 → g.la < 2 ^ 32 → opening_of g ≡ Open h → Lends h t → New (header h) t
+pub opened_new : (g : Header) (h : realms.Realm) (t : Tables) → g.ls < 2 ^ 32 → g.la < 2 ^ 32 → opening_of g ≡ Ok h → Lends h t → New (header h) t
 opened_new g h t hs ha o l =
     let is : new_realm g ≡ t.realm = (opened_is g h o).1 ∙ sym l.realm_is in
     record {

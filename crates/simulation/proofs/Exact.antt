@@ -1,6 +1,6 @@
 -- What follows from the definitions of the same name in specs/.
 -- Assumes nothing.
-use Rattle.std.specs.Prelude.{ℕ, ◌≤◌, ◌≡◌, refl, Bool, true, false, cond, ◌↔◌, leb}
+use Rattle.std.specs.Prelude.{ℕ, ◌≤◌, ◌≡◌, refl, Bool, true, false, cond, ◌↔◌, leb, Option, Ok}
 use Rattle.std.proofs.Common.{sym, ◌∙◌, arith}
 use Rattle.std.proofs.Math.Path.{ap, subst}
 use mathlib.Core.List.{List}
@@ -15,10 +15,9 @@ use Rattle.messages.specs.Listed.{insert, add_all}
 use Rattle.messages.specs.Meanings.{meanings}
 use Rattle.sending.proofs.Promises.{send_fits}
 use Rattle.sending.specs.Send.{sent, refused, entered_all, marked_all, fits_in, send_of}
-use Rattle.exchange.specs.declared.call.Answer.TheVariants.{Ok}
+use Rattle.exchange.specs.declared.call.Accepted.TheVariants.{Taken}
 use Rattle.exchange.specs.declared.call.Call.{Call}
 use Rattle.exchange.specs.declared.call.Call.TheVariants as calls
-use Rattle.exchange.specs.declared.call.Names.{Names}
 use Rattle.exchange.specs.Calls.{accepts, added_by, Sized}
 use Rattle.traces.specs.Engines.{Agrees}
 use Rattle.traces.specs.Realm.{Realm}
@@ -33,7 +32,6 @@ use Rattle.realm.specs.declared.input.Step.{Step}
 use Rattle.realm.specs.Opening.{header}
 use Rattle.realm.specs.Tables.{Tables, Together}
 use Rattle.decisions.specs.declared.Effect.{Effect}
-use Rattle.decisions.specs.declared.Verdict.TheVariants as verdicts
 use Rattle.decisions.specs.Decision.{decision}
 use Rattle.decisions.specs.Effects.{messages_of}
 use Rattle.decisions.proofs.Laws.Exact.{took_decided}
@@ -81,7 +79,7 @@ module _ {t : Tables} (w : Together t) where
   module _ (ρ : Reading Event) (a : Agrees (set_of (header t.realm)) (header t.realm) (values_of (header t.realm) t) ρ) where
     -- a step that the rules take is decided so,
     step_decided : (s : Step) {act : Act} → Takes (form_at t) (header t.realm) ρ.terms ρ.log (calls.Step s.step s.run s.a s.b s.m s.t) act
-        → (x : Effect) × (decision t s ≡ verdicts.Takes x) × (x.names ≡ named_by act.0)
+        → (x : Effect) × (decision t s ≡ Ok x) × (x.names ≡ named_by act.0)
     unfolding decision
     step_decided s {act} k =
         let met = takes_took t ρ w a k in
@@ -91,9 +89,9 @@ module _ {t : Tables} (w : Together t) where
 
     -- and accepted, with the run of its event;
     pub step_accepted : (s : Step) {act : Act} → Takes (form_at t) (header t.realm) ρ.terms ρ.log (calls.Step s.step s.run s.a s.b s.m s.t) act
-        → (stepped t s).answer ≡ Ok (named_by act.0) (added_by (stepped t s).answer)
+        → (stepped t s).answer ≡ Ok (Taken (named_by act.0) (added_by (stepped t s).answer))
     unfolding stepped applied
-    step_accepted s k = let d = step_decided s k in rw d.1 (ap (λ (who : Names). Ok who (added_by (applied t d.0).answer)) d.2)
+    step_accepted s k = let d = step_decided s k in rw d.1 (ap (λ (who : Option ℕ). Ok (Taken who (added_by (applied t d.0).answer))) d.2)
 
     -- so is a term.
     term_taken : (kind x y : ℕ) → Sized (calls.Term kind x y) → {act : Act} → Takes (form_at t) (header t.realm) ρ.terms ρ.log (calls.Term kind x y) act
@@ -120,7 +118,7 @@ module _ {R : Realm} (t : Tables) (ρ : Reading Event) (f : Follows R t ρ) wher
       let told = step_accepted f.together ρ own (record { step = step; run = r; a = a; b = b; m = m; t = now }) (by_own c k) in
       let grows = subst (GrowsBy R ρ c) told (step_grows f step r a b m now) in
       let acted = ap (λ (x : Act). length (add_all x.1 ρ.terms)) (rules_read ρ k) in
-      told ∙ ap (Ok (named_by act.0)) (omega (arith, grows, acted))
+      told ∙ ap (λ (k : ℕ). Ok (Taken (named_by act.0) k)) (omega (arith, grows, acted))
 
   back : (c : Call) → Sized c → Takable R ρ c → accepts (called t c).answer ≡ true
   unfolding called

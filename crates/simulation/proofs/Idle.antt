@@ -1,6 +1,6 @@
 -- Steps that change nothing: "10 | accepted if the intruder can build m; changes nothing", "9 | .. leaking it again changes nothing".
 -- Assumes nothing.
-use Rattle.std.specs.Prelude.{ℕ, ◌≡◌, true, List}
+use Rattle.std.specs.Prelude.{ℕ, ◌≡◌, true, List, Ok, Err}
 use Rattle.std.proofs.Math.Path.{refl, ap}
 use Rattle.std.proofs.Common.{sym, subst, ◌∙◌}
 use Rattle.marks.proofs.Promises.{again}
@@ -13,9 +13,7 @@ use Rattle.kerberos.specs.Log.{Event}
 use Rattle.realm.specs.declared.input.Step.{Step}
 use Rattle.realm.specs.Tables.{Tables, Together}
 use Rattle.decisions.specs.declared.Effect.{Effect}
-use Rattle.decisions.specs.declared.Verdict.{Verdict}
-use Rattle.decisions.specs.declared.Verdict.TheVariants as verdicts
-use Rattle.decisions.specs.Decision.{decision}
+use Rattle.decisions.specs.Decision.{decision, Verdict}
 use Rattle.decisions.specs.Effects.{messages_of, nothing, leaking}
 use Rattle.decisions.specs.Laws.Took.{Took, took9, took10}
 use Rattle.decisions.proofs.Laws.Verdict.{decision_takes}
@@ -38,12 +36,12 @@ leaked (took9 v) = refl
 
 module _ (t : Tables) (w : Together t) where
   -- an effect that is no more than this message's, or none's, and leaves what was sent as it was
-  by_verdict_lem : (s : Step) (x : Effect) → ((y : Effect) → decision t s ≡ verdicts.Takes y → y ≡ x)
+  by_verdict_lem : (s : Step) (x : Effect) → ((y : Effect) → decision t s ≡ Ok y → y ≡ x)
       → send_of t.terms t.wire t.realm.terms (messages_of t.terms x.sends) ≡ sent t.realm.terms t.terms t.wire
       → (applied_with t x t.realm.terms t.terms t.wire).tables ≡ t
       → (v : Verdict) → decision t s ≡ v → (by_verdict t v).tables ≡ t
-  by_verdict_lem s x is o idle (verdicts.Refused k) d = refl
-  by_verdict_lem s x is o idle (verdicts.Takes y) d =
+  by_verdict_lem s x is o idle (Err k) d = refl
+  by_verdict_lem s x is o idle (Ok y) d =
       let same = is y d in
       let fits = subst (λ (z : Effect). fits_in t.terms t.realm.terms (messages_of t.terms z.sends) ≡ true) same (decision_takes t s d).1 in
       ap (λ (z : Effect). (applied t z).tables) same ∙ ap (λ (q : Outcome). q.tables) (applied_as t x fits o) ∙ idle

@@ -1,6 +1,6 @@
 -- A call keeps tables together that hold together: what the unchecked call asks for holds again after it.
 -- Assumes nothing.
-use Rattle.std.specs.Prelude.{ℕ, ◌≡◌, refl, List, length}
+use Rattle.std.specs.Prelude.{ℕ, ◌≡◌, refl, List, length, Ok, Err}
 use Rattle.std.proofs.Common.{subst}
 use Rattle.words.specs.Word.{packed}
 use Rattle.terms.specs.Add.{add_of, AddsTerm}
@@ -17,9 +17,7 @@ use Rattle.realm.specs.declared.input.Step.{Step}
 use Rattle.realm.specs.Fields.{call_of}
 use Rattle.realm.specs.Tables.{Tables, Together}
 use Rattle.decisions.specs.declared.Effect.{Effect}
-use Rattle.decisions.specs.declared.Verdict.{Verdict}
-use Rattle.decisions.specs.declared.Verdict.TheVariants as verdicts
-use Rattle.decisions.specs.Decision.{decision}
+use Rattle.decisions.specs.Decision.{decision, Verdict}
 use Rattle.decisions.specs.Effects.{messages_of}
 use Rattle.decisions.proofs.Laws.Verdict.{decision_takes}
 use Rattle.effects.specs.Apply.{applied}
@@ -28,7 +26,7 @@ use Rattle.simulation.proofs.Terms.{term_together}
 use Rattle.effects.specs.Call.{adding, with_adding, by_verdict, stepped, called}
 
 -- the terms of a step that is taken fit, so its messages are sent
-pub step_sends : (t : Tables) (s : Step) {x : Effect} → decision t s ≡ verdicts.Takes x
+pub step_sends : (t : Tables) (s : Step) {x : Effect} → decision t s ≡ Ok x
     → let ms = messages_of t.terms x.sends in let xs = entered_all (terms_of t.terms t.realm.terms) ms in
     send_of t.terms t.wire t.realm.terms ms ≡ sent (length xs) (over xs t.terms) (marked_all t.wire xs ms)
 step_sends t s {x} d = send_room t.terms t.wire t.realm.terms (messages_of t.terms x.sends) (decision_takes t s d).1
@@ -36,8 +34,8 @@ step_sends t s {x} d = send_room t.terms t.wire t.realm.terms (messages_of t.ter
 module _ {t : Tables} (w : Together t) where
   by_verdict_lem : (s : Step) → Sized (call_of s) → (v : Verdict) → decision t s ≡ v → Together (by_verdict t v).tables
   unfolding applied
-  by_verdict_lem s size (verdicts.Takes x) d = step_together w s (decision_takes t s d).0 (step_sends t s d) size
-  by_verdict_lem s size (verdicts.Refused k) d = w
+  by_verdict_lem s size (Ok x) d = step_together w s (decision_takes t s d).0 (step_sends t s d) size
+  by_verdict_lem s size (Err k) d = w
 
   by_adding : (kind l r : ℕ) → Sized (calls.Term kind l r) → (a : terms.TermAnswer) (count : ℕ) (ts : List ℕ)
       → add_of t.realm.n t.terms t.realm.terms (packed kind l r) ≡ record { answer = a; count = count; table = ts }

@@ -5,11 +5,10 @@
 -- Kept (of a call). The way back, from the rules to the tables, is Back and TermsBack; both ways together are Exact, with what
 -- an answer tells from Told, and of refusals 15 and 22 Underivable and Ahead. Unread is about places past the counts.
 -- Assumes nothing.
-use Rattle.std.specs.Prelude.{ℕ, ◌+◌, ◌<◌, ◌≡◌, true, List, map, ◌↔◌, length, replicate}
+use Rattle.std.specs.Prelude.{ℕ, ◌+◌, ◌<◌, ◌≡◌, true, List, map, ◌↔◌, length, replicate, Err}
 use Rattle.std.proofs.Common.{subst}
 use Rattle.std.proofs.Math.Option.{some}
 use Rattle.terms.specs.Message.{session, Message, key}
-use Rattle.exchange.specs.declared.call.Answer.TheVariants.{Refused}
 use Rattle.exchange.specs.declared.call.Call.{Call}
 use Rattle.exchange.specs.declared.call.Call.TheVariants.{Term, Step}
 use Rattle.exchange.specs.Calls.{accepts, Sized, AllSized}
@@ -88,12 +87,12 @@ terms_grow R t ρ f c size = told.terms_grow f c size
 
 -- 15 is given exactly where the step can have it, nothing before it applies, and the intruder cannot deliver m.
 pub underivable_exact : (R : Realm) (t : Tables) (ρ : Reading Event) → Follows R t ρ → (step r a b m now : ℕ)
-    → let answer = (called t (Step step r a b m now)).answer in (answer ≡ Refused 15) ↔ Barred R ρ step m answer
+    → let answer = (called t (Step step r a b m now)).answer in (answer ≡ Err 15) ↔ Barred R ρ step m answer
 underivable_exact R t ρ f step r a b m now = underivable.underivable_exact t ρ f step r a b m now
 
 -- "22 for such a Ta, after 17 and before 18": a delivery that nothing before it bars has it exactly where its Ta is above clock + La.
 pub ahead_exact : (R : Realm) (t : Tables) (ρ : Reading Event) → Follows R t ρ → (r m a b k ts ta : ℕ) → Passes17 R ρ r m a b k ts ta
-    → ((called t (Step 5 r 0 0 m 0)).answer ≡ Refused 22) ↔ (clock ρ.log + R.auth_life < ta)
+    → ((called t (Step 5 r 0 0 m 0)).answer ≡ Err 22) ↔ (clock ρ.log + R.auth_life < ta)
 ahead_exact R t ρ f r m a b k ts ta p = ahead.ahead_exact t ρ f r m a b k ts ta p
 
 -- "10 is met only by a library caller": on tables that hold together the checked call is the call.

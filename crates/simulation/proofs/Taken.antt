@@ -1,7 +1,7 @@
 -- A step that is taken: what the definitions of the crates below decide and write is what the rules of the exchange take and its
 -- reading holds.
 -- Assumes nothing.
-use Rattle.std.specs.Prelude.{ℕ, List, ◌∷◌, ◌≡◌}
+use Rattle.std.specs.Prelude.{ℕ, List, ◌∷◌, ◌≡◌, Ok}
 use Rattle.std.proofs.Common.{sym}
 use Rattle.std.proofs.Math.Path.{subst}
 use Rattle.messages.specs.Listed.{add_all}
@@ -19,7 +19,6 @@ use Rattle.realm.specs.Fields.{call_of}
 use Rattle.realm.specs.Opening.{header}
 use Rattle.realm.specs.Tables.{Tables, Together}
 use Rattle.decisions.specs.declared.Effect.{Effect}
-use Rattle.decisions.specs.declared.Verdict.TheVariants.{Takes}
 use Rattle.decisions.specs.Decision.{decided}
 use Rattle.decisions.specs.Effects.{messages_of}
 use Rattle.decisions.proofs.Laws.Fits.{took_clock}
@@ -30,7 +29,7 @@ use Rattle.simulation.proofs.Rules.{taken}
 use Rattle.simulation.specs.Values.{values_of}
 
 -- Tables that hold together, a step that is taken, and what came of sending its messages:
-module _ {t : Tables} (w : Together t) (s : Step) {x : Effect} (d : decided t s ≡ Takes x) {count : ℕ} {ts ws : List ℕ}
+module _ {t : Tables} (w : Together t) (s : Step) {x : Effect} (d : decided t s ≡ Ok x) {count : ℕ} {ts ws : List ℕ}
     (o : send_of t.terms t.wire t.realm.terms (messages_of t.terms x.sends) ≡ sent count ts ws) where
   -- the tables hold together again,
   pub step_together : Sized (call_of s) → Together (next_tables t x count ts ws)

@@ -1,13 +1,12 @@
 -- A TM that the rules take is accepted: its word passes 4, 5 and 6, and 20 is not given, since a term that is not there is a message
 -- that is not there.
 -- Assumes nothing.
-use Rattle.std.specs.Prelude.{ℕ, zero, suc, ◌<◌, ◌≤◌, ◌≡◌, refl, Bool, true, false, cond, List, [], ◌∷◌, eqb, length, set}
+use Rattle.std.specs.Prelude.{ℕ, zero, suc, ◌<◌, ◌≤◌, ◌≡◌, refl, Bool, true, false, cond, List, [], ◌∷◌, eqb, length, set, Some, None}
 use Rattle.std.proofs.Common.{sym, ap, ap₂, ◌∙◌, arith, eq-eqb, eqb-true, length-append}
+use Rattle.std.specs.Prelude as found
 use Rattle.std.proofs.Math.Option.{Option, none, some, some-injective}
 use Rattle.words.specs.Word as words
 use Rattle.words.specs.Word.{packed, term_by, word_of}
-use Rattle.terms.specs.declared.table.Found.{Found}
-use Rattle.terms.specs.declared.table.Found.TheVariants as found
 use Rattle.terms.specs.Add.{add_by, add_of}
 use Rattle.terms.specs.Meaning.{message_of, message_at}
 use Rattle.terms.proofs.Meaning.{message_at_lem, key_at, key_inv}
@@ -131,9 +130,9 @@ module _ {n : ℕ} {ts : List ℕ} {count : ℕ} (v : Valid n ts count) where
         let e = ap length (insert_new m (meanings ts count) (not_there a)) ∙ length-append (meanings ts count) (m ∷ []) in
         omega (arith, e, room, meanings_length ts count)
 
-    by_found : (grown : ℕ) → length (insert m (meanings ts count)) ≤ 512 → (f : Found) → FoundIs ts count w f → accepts (numbered (add_by ts count w f).answer grown) ≡ true
-    by_found grown room (found.At i) h = number_accepts i grown
-    by_found grown room found.Nothing h = by (eqb count 512) refl
+    by_found : (grown : ℕ) → length (insert m (meanings ts count)) ≤ 512 → (f : found.Option ℕ) → FoundIs ts count w f → accepts (numbered (add_by ts count w f).answer grown) ≡ true
+    by_found grown room (Some i) h = number_accepts i grown
+    by_found grown room None h = by (eqb count 512) refl
       where
         by : (b : Bool) → eqb count 512 ≡ b → accepts (numbered (cond b (terms.refuse 20 count ts) (terms.accept count (suc count) (set ts count w))).answer grown) ≡ true
         by true e = absurd (omega (arith, some_room room h, eqb-true count 512 e))

@@ -1,6 +1,6 @@
 -- What follows from the definitions of the same name in specs/.
 -- Assumes nothing.
-use Rattle.std.specs.Prelude.{ℕ, zero, suc, ◌+◌, ◌-◌, ◌<◌, ◌≡◌, refl, true, List, [], ◌∷◌, length}
+use Rattle.std.specs.Prelude.{ℕ, zero, suc, ◌+◌, ◌-◌, ◌<◌, ◌≡◌, refl, true, List, [], ◌∷◌, length, Ok}
 use Rattle.std.proofs.Common.{sym, ap, ◌∙◌, arith}
 use Rattle.std.proofs.Math.Option.{some, some-injective}
 use Rattle.std.proofs.Math.Decide.{ℕ_discrete}
@@ -15,7 +15,7 @@ use Rattle.terms.specs.Valid.{Valid}
 use Rattle.messages.specs.Listed.{term_at, same}
 use Rattle.messages.specs.Meanings.{meanings}
 use Rattle.messages.proofs.Meanings.{meanings_length, meanings_at, at_meanings}
-use Rattle.exchange.specs.declared.call.Answer.TheVariants.{Old, New}
+use Rattle.exchange.specs.declared.call.Accepted.TheVariants.{Old, New}
 use Rattle.exchange.specs.declared.call.Call.{Call}
 use Rattle.exchange.specs.declared.call.Call.TheVariants as calls
 use Rattle.exchange.specs.Calls.{accepts, Sized}
@@ -55,19 +55,19 @@ module _ {R : Realm} {t : Tables} {ρ : Reading Event} (f : Follows R t ρ) wher
 -- ---- a term
 
 -- a term that is present once is told old,
-present_told : (at : ℕ) (terms : List Message) (m : Message) (i : ℕ) → term_at terms i ≡ some m → ((k : ℕ) → term_at terms k ≡ some m → k ≡ i) → term_told at terms m ≡ Old (at + i)
+present_told : (at : ℕ) (terms : List Message) (m : Message) (i : ℕ) → term_at terms i ≡ some m → ((k : ℕ) → term_at terms k ≡ some m → k ≡ i) → term_told at terms m ≡ Ok (Old (at + i))
 present_told at [] m i e once = cc
-present_told at (x ∷ terms) m zero e once = ite_holds (same m x) _ _ (sym (some-injective _ _ e)) ∙ ap Old (omega arith)
+present_told at (x ∷ terms) m zero e once = ite_holds (same m x) _ _ (sym (some-injective _ _ e)) ∙ ap (λ (k : ℕ). Ok (Old k)) (omega arith)
 present_told at (x ∷ terms) m (suc i) e once =
     ite_fails (same m x) _ _ (λ q. let z : 0 ≡ suc i = once 0 (ap some (sym q)) in absurd (omega arith))
     ∙ present_told (suc at) terms m i e (λ k q. let z : suc k ≡ suc i = once (suc k) q in omega arith)
-    ∙ ap Old (omega arith)
+    ∙ ap (λ (k : ℕ). Ok (Old k)) (omega arith)
 
 -- and one that is not is told new, behind the others
-absent_told : (at : ℕ) (terms : List Message) (m : Message) → ((k : ℕ) → ¬ (term_at terms k ≡ some m)) → term_told at terms m ≡ New (at + length terms)
-absent_told at [] m none = ap New (omega arith)
+absent_told : (at : ℕ) (terms : List Message) (m : Message) → ((k : ℕ) → ¬ (term_at terms k ≡ some m)) → term_told at terms m ≡ Ok (New (at + length terms))
+absent_told at [] m none = ap (λ (k : ℕ). Ok (New k)) (omega arith)
 absent_told at (x ∷ terms) m none =
-    ite_fails (same m x) _ _ (λ q. none 0 (ap some (sym q))) ∙ absent_told (suc at) terms m (λ k. none (suc k)) ∙ ap New (omega arith)
+    ite_fails (same m x) _ _ (λ q. none 0 (ap some (sym q))) ∙ absent_told (suc at) terms m (λ k. none (suc k)) ∙ ap (λ (k : ℕ). Ok (New k)) (omega arith)
 
 module _ {n : ℕ} {ts : List ℕ} {count : ℕ} (v : Valid n ts count) (kind x y : ℕ) (size : Sized (calls.Term kind x y)) {m : Message}
     (made : message_from (meanings ts count) kind x y ≡ some m) where
@@ -85,13 +85,13 @@ module _ {n : ℕ} {ts : List ℕ} {count : ℕ} (v : Valid n ts count) (kind x 
           let here : message_at ts i ≡ m = older v kind x y size e i below ∙ means in
           rw z
           (same_old i count ∙ sym (present_told 0 (meanings ts count) m i (meanings_at ts count i below ∙ ap some here)
-          (λ k w. let p = at_meanings ts count k m w in messages_once v k i p.0 below (p.1 ∙ sym here)) ∙ ap Old (omega arith)))
+          (λ k w. let p = at_meanings ts count k m w in messages_once v k i p.0 below (p.1 ∙ sym here)) ∙ ap (λ (k : ℕ). Ok (Old k)) (omega arith)))
       by_eq (no ne) =
           let more : count < count' = omega (arith, (is v kind x y size e).2.more) in
           let one : count' ≡ suc count = omega (arith, (way v kind x y size e).1) in
           rw one
           (more_new i count ∙ sym (absent_told 0 (meanings ts count) m (λ k w. term_fresh v kind x y size e more k (w ∙ ap some (sym means)))
-          ∙ ap New (omega (arith, meanings_length ts count, (way v kind x y size e).2 more))))
+          ∙ ap (λ (k : ℕ). Ok (New k)) (omega (arith, meanings_length ts count, (way v kind x y size e).2 more))))
 
   pub term_told_lem : let o = add_of n ts count (packed kind x y) in let answer = numbered o.answer (o.count - count) in
       accepts answer ≡ true → answer ≡ term_told 0 (meanings ts count) m

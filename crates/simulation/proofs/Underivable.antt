@@ -1,8 +1,7 @@
 -- What follows from the definitions of the same name in specs/.
 -- Assumes nothing.
-use Rattle.std.specs.Prelude.{ℕ, ◌≡◌, ◌↔◌}
+use Rattle.std.specs.Prelude.{ℕ, ◌≡◌, ◌↔◌, Err}
 use Rattle.std.proofs.Common.{sym, subst}
-use Rattle.exchange.specs.declared.call.Answer.TheVariants.{Refused}
 use Rattle.exchange.specs.declared.call.Call.TheVariants as calls
 use Rattle.traces.specs.Conditions.{Delivers}
 use Rattle.traces.specs.Realm.{Realm}
@@ -23,7 +22,7 @@ module _ {R : Realm} (t : Tables) (ρ : Reading Event) (f : Follows R t ρ) (ste
   abbrev s : Step
   s = record { step = step; run = r; a = a; b = b; m = m; t = now }
 
-  pub underivable_exact : let answer = (called t (calls.Step step r a b m now)).answer in (answer ≡ Refused 15) ↔ Barred R ρ step m answer
+  pub underivable_exact : let answer = (called t (calls.Step step r a b m now)).answer in (answer ≡ Err 15) ↔ Barred R ρ step m answer
   unfolding called
   underivable_exact =
       let d = decisions.underivable_exact t f.together s in (

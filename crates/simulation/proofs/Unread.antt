@@ -3,7 +3,7 @@
 pub mod Added
 pub mod Decided
 pub mod Reads
-use Rattle.std.specs.Prelude.{ℕ, ◌-◌, ◌<◌, ◌≤◌, ◌≡◌, length, set, drop}
+use Rattle.std.specs.Prelude.{ℕ, ◌-◌, ◌<◌, ◌≤◌, ◌≡◌, length, set, drop, Ok, Err}
 use Rattle.std.proofs.Math.Path.{refl, sym, ap, ap₂, subst}
 use Rattle.std.proofs.Common.{◌∙◌, add-one, arith}
 use mathlib.Core.List.{List, [], ◌∷◌, ◌++◌}
@@ -15,7 +15,7 @@ use Rattle.terms.specs.Number.{terms_of}
 use Rattle.terms.specs.Outcome.{TermAnswer}
 use Rattle.sending.specs.Send.{entered_all, marked_all}
 use Rattle.exchange.specs.declared.run.Row.{Row}
-use Rattle.exchange.specs.declared.call.Answer.TheVariants.{Ok}
+use Rattle.exchange.specs.declared.call.Accepted.TheVariants.{Taken}
 use Rattle.exchange.specs.declared.call.Call.{Call}
 use Rattle.exchange.specs.declared.call.Call.TheVariants as calls
 use Rattle.replay.specs.Cache.{kept, entries}
@@ -33,9 +33,7 @@ use Rattle.decisions.specs.declared.Change.TheVariants as changes
 use Rattle.decisions.specs.declared.Effect.{Effect}
 use Rattle.decisions.specs.declared.Keeping.{Keeping}
 use Rattle.decisions.specs.declared.Keeping.TheVariants.{Same, Remember, Forget}
-use Rattle.decisions.specs.declared.Verdict.{Verdict}
-use Rattle.decisions.specs.declared.Verdict.TheVariants.{Takes, Refused}
-use Rattle.decisions.specs.Decision.{decision}
+use Rattle.decisions.specs.Decision.{decision, Verdict}
 use Rattle.decisions.specs.Effects.{messages_of}
 use Rattle.decisions.specs.Laws.Fits.{RowFits, RowReady, Carries, EffectFits}
 use Rattle.decisions.proofs.Laws.Verdict.{decision_takes}
@@ -80,9 +78,9 @@ module _ (h : Realm) {ts ts' rs rs' : List ℕ} (ws : List ℕ) {c c' : List Ent
 
   verdict_answer : (s : Step) (v : Verdict) → decision other s ≡ v → (by_verdict one v).answer ≡ (by_verdict other v).answer
   unfolding applied
-  verdict_answer s (Refused k) d = refl
-  verdict_answer s (Takes x) d =
-      ap (λ (l : List ℕ). Ok x.names (length l - h.terms)) (sent_entered x (taken_fits other s w' (decision_takes other s d).0).carries)
+  verdict_answer s (Err k) d = refl
+  verdict_answer s (Ok x) d =
+      ap (λ (l : List ℕ). Ok (Taken x.names (length l - h.terms))) (sent_entered x (taken_fits other s w' (decision_takes other s d).0).carries)
 
   step_answer : (s : Step) → (stepped one s).answer ≡ (stepped other s).answer
   unfolding stepped
@@ -143,8 +141,8 @@ module _ (h : Realm) {ts ts' rs rs' : List ℕ} (ws : List ℕ) {c c' : List Ent
       }
 
   verdict_alike : (s : Step) (v : Verdict) → decision one s ≡ v → Alike (by_verdict one v).tables (by_verdict other v).tables
-  verdict_alike s (Refused k) d = record { realm = refl; terms = same_terms; rows = same_rows; wire = refl; entries = same_entries }
-  verdict_alike s (Takes x) d = effect_alike x (taken_fits one s w (decision_takes one s d).0)
+  verdict_alike s (Err k) d = record { realm = refl; terms = same_terms; rows = same_rows; wire = refl; entries = same_entries }
+  verdict_alike s (Ok x) d = effect_alike x (taken_fits one s w (decision_takes one s d).0)
 
   step_alike : (s : Step) → Alike (stepped one s).tables (stepped other s).tables
   unfolding stepped

@@ -1,9 +1,8 @@
 -- 22 of step 5, in the reading of the calls: a delivery that nothing before it bars has it exactly where its Ta is above clock + La.
 -- Assumes nothing.
-use Rattle.std.specs.Prelude.{ℕ, ◌+◌, ◌<◌, ◌≡◌, ◌↔◌}
+use Rattle.std.specs.Prelude.{ℕ, ◌+◌, ◌<◌, ◌≡◌, ◌↔◌, Err}
 use Rattle.std.proofs.Math.Option.{some}
 use Rattle.terms.specs.Message.{pair}
-use Rattle.exchange.specs.declared.call.Answer.TheVariants.{Refused}
 use Rattle.exchange.specs.declared.call.Call.TheVariants as calls
 use Rattle.traces.specs.Conditions.{Delivers}
 use Rattle.traces.specs.Realm.{Realm}
@@ -24,4 +23,4 @@ pub record Passes17 (R : Realm) (ρ : Reading Event) (r m a b k ts ta : ℕ) : T
 
 module _ {R : Realm} (t : Tables) (ρ : Reading Event) (f : Follows R t ρ) (r m a b k ts ta : ℕ) where
   abbrev pub Exact : Realm → Type 0
-  Exact R = Passes17 R ρ r m a b k ts ta → ((called t (calls.Step 5 r 0 0 m 0)).answer ≡ Refused 22) ↔ (clock ρ.log + R.auth_life < ta)
+  Exact R = Passes17 R ρ r m a b k ts ta → ((called t (calls.Step 5 r 0 0 m 0)).answer ≡ Err 22) ↔ (clock ρ.log + R.auth_life < ta)

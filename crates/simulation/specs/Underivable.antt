@@ -1,10 +1,9 @@
 -- 15 is given exactly where the step can have it, nothing before it applies, and m is no message that the intruder can deliver, in the
 -- reading of the calls.
 -- Assumes nothing.
-use Rattle.std.specs.Prelude.{ℕ, ◌<◌, ◌≡◌}
+use Rattle.std.specs.Prelude.{ℕ, ◌<◌, ◌≡◌, Err}
 use Rattle.terms.specs.Message.{Message}
-use Rattle.exchange.specs.declared.call.Answer.{Answer}
-use Rattle.exchange.specs.declared.call.Answer.TheVariants.{Refused}
+use Rattle.exchange.specs.Calls.{Answer}
 use Rattle.traces.specs.Conditions.{Delivers}
 use Rattle.traces.specs.Lists.{◌∈◌}
 use Rattle.traces.specs.Realm.{Realm}
@@ -17,4 +16,4 @@ use Rattle.decisions.specs.Refusals.{refusals_of}
 pub record Barred (R : Realm) (ρ : Reading Event) (step m : ℕ) (answer : Answer) : Type 0 where
   pub can_have : 15 ∈ refusals_of step
   pub underivable : (x : Message) → ¬ (Delivers R ρ.terms ρ.log m x)
-  pub reached : (k : ℕ) → k < 15 → ¬ (answer ≡ Refused k)
+  pub reached : (k : ℕ) → k < 15 → ¬ (answer ≡ Err k)

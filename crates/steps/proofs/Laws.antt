@@ -1,9 +1,15 @@
 -- Each way out of a whole step, and what the fields of a step that passes name.
 -- Assumes nothing.
-use Rattle.std.specs.Prelude.{ℕ, ◌<◌, ◌≤◌, true, false, ◌≡◌, refl}
+use Rattle.std.specs.Prelude.{ℕ, ◌<◌, ◌≤◌, List, true, false, ◌≡◌, refl, Result, Ok, Err, MatchResult, IsOkAnd}
 use Rattle.std.proofs.Math.Decide.{dec_lt}
-use Rattle.std.proofs.Common.{arith, inl, inr, subst}
+use Rattle.std.proofs.Common.{arith, inl, inr, subst, sym, ap, ◌∙◌}
 use borrow.Author.Tests.{lt-ltb, le-ltb, le-leb, lt-leb, eq-eqb, ne_eqb}
+use Rattle.refusals.specs.declared.Refusal.{Refusal}
+use Rattle.refusals.specs.Numbers.{number, numbered}
+use Rattle.receiving.specs.declared.Pending.{Pending}
+use Rattle.receiving.specs.declared.Pending.TheVariants.{Settled}
+use Rattle.receiving.specs.Pending.{asks}
+use Rattle.decisions.specs.declared.Effect.{Effect}
 use Rattle.exchange.specs.declared.run.Role.{Role}
 use Rattle.exchange.specs.declared.run.Role.TheVariants.{Initiator, Responder}
 use Rattle.exchange.specs.declared.run.Row.{Row}
@@ -19,30 +25,43 @@ use Rattle.realm.specs.Tables.{Tables}
 use Rattle.conditions.specs.Conditions.{derivable_at}
 use Rattle.decisions.specs.declared.Sends.{Sends}
 use Rattle.decisions.specs.declared.Sends.TheVariants.{Request, Nothing}
-use Rattle.decisions.specs.declared.Verdict.TheVariants.{Takes, Refused}
 use Rattle.decisions.specs.Effects.{opening, nothing, forgetting, leaking}
-use Rattle.decisions.specs.Decision.{need, issues, authenticates, takes, finishes, opens_run, ticks, queries, step_of, decided}
-use Rattle.steps.specs.Named.{NamesRun, Named}
+use Rattle.decisions.specs.Decision.{Verdict, need, issues, authenticates, takes, finishes, opens_run, ticks, queries, step_of, decided}
+use Rattle.steps.specs.Named.{NamesRun, Named, Pends}
+use Rattle.terms.proofs.Choice.{no_true}
+
+-- ---- a verdict that hangs on nothing
+
+module _ {h : Realm} {ts : List ℕ} {m : ℕ} {verdict : List ℕ → Verdict} where
+  -- one that is settled, as `map` makes it of a verdict
+  pub settles : (v : Result Effect Refusal) (p : Result Pending Refusal)
+      → MatchResult v (λ x. IsOkAnd p (λ (q : Pending). q ≡ Settled x)) (λ e. p ≡ Err e) → ((ws : List ℕ) → numbered v ≡ verdict ws) → Pends h ts m p verdict
+  settles (Ok x) (Ok q) k is = record { present = λ e. no_true (sym (ap asks (ap Ok k)) ∙ e); is = λ ws. rw k (is ws) }
+  settles (Ok x) (Err _) k is = elim k [ ]
+  settles (Err e) p k is = record { present = λ e. no_true (sym (ap asks k) ∙ e); is = λ ws. rw k (is ws) }
+
+  pub refuses : (p : Result Pending Refusal) (r : Refusal) → p ≡ Err r → ((ws : List ℕ) → Err (number r) ≡ verdict ws) → Pends h ts m p verdict
+  refuses p r k is = record { present = λ e. no_true (sym (ap asks k) ∙ e); is = λ ws. rw k (is ws) }
 
 -- ---- steps 1 and 2
 
 module _ (h : Realm) (role : Role) (a b : ℕ) (x : Sends) where
-  pub no_room : 64 ≤ h.runs → Refused 13 ≡ opens_run h role a b x
+  pub no_room : 64 ≤ h.runs → Err 13 ≡ opens_run h role a b x
   unfolding opens_run
   no_room p = rw (le-ltb h.runs 64 p)
 
-  pub run_opened : h.runs < 64 → Takes (opening h.clock role Opened h.runs a b 0 0 x) ≡ opens_run h role a b x
+  pub run_opened : h.runs < 64 → Ok (opening h.clock role Opened h.runs a b 0 0 x) ≡ opens_run h role a b x
   unfolding opens_run
   run_opened p = rw (lt-ltb h.runs 64 p)
 
 -- ---- step 7
 
 module _ (h : Realm) (t : ℕ) where
-  pub clock_back : t < h.clock → Refused 12 ≡ ticks h t
+  pub clock_back : t < h.clock → Err 12 ≡ ticks h t
   unfolding ticks
   clock_back p = rw (lt-leb h.clock t p)
 
-  pub clock_set : h.clock ≤ t → Takes (nothing t) ≡ ticks h t
+  pub clock_set : h.clock ≤ t → Ok (nothing t) ≡ ticks h t
   unfolding ticks
   clock_set p = rw (le-leb h.clock t p)
 
@@ -74,7 +93,7 @@ module _ (t : Tables) (s : Step) (own : Row) (is : own ≡ run_at t.runs s.run) 
     unfit_at : (k : ℕ) → s.step ≡ k → meets (need_of k) own ≡ false
     unfit_at k e = subst (λ (n : ℕ). meets (need_of n) own ≡ false) e unfit
 
-    pub run_barred : NamesRun s.step → Refused 11 ≡ step_of t s
+    pub run_barred : NamesRun s.step → Err 11 ≡ step_of t s
     unfolding step_of
     run_barred (inl e) = rw (e, ← is, unfit_at 4 e)
     run_barred (inr (inl e)) = rw (e, ← is, unfit_at 5 e)
@@ -97,7 +116,7 @@ module _ (t : Tables) (s : Step) (own : Row) (is : own ≡ run_at t.runs s.run) 
     unfolding step_of
     step_6 e = rw (e, ← is, fit_at 6 e)
 
-    pub step_9 : s.step ≡ 9 → Takes (leaking t.realm.clock s.run) ≡ step_of t s
+    pub step_9 : s.step ≡ 9 → Ok (leaking t.realm.clock s.run) ≡ step_of t s
     unfolding step_of
     step_9 e = rw (e, ← is, fit_at 9 e)
 
@@ -127,18 +146,18 @@ module _ (t : Tables) (s : Step) where
   unfolding step_of
   step_7 e = rw e
 
-  pub step_8 : s.step ≡ 8 → Takes (forgetting t.realm.clock s.b) ≡ step_of t s
+  pub step_8 : s.step ≡ 8 → Ok (forgetting t.realm.clock s.b) ≡ step_of t s
   unfolding step_of
   step_8 e = rw e
 
-  pub step_10 : s.step ≡ 10 → need (derivable_at t.realm t.terms t.wire s.m) 15 (Takes (nothing t.realm.clock)) ≡ step_of t s
+  pub step_10 : s.step ≡ 10 → need (derivable_at t.realm t.terms t.wire s.m) 15 (Ok (nothing t.realm.clock)) ≡ step_of t s
   unfolding step_of queries
   step_10 e = rw e
 
 -- ---- the refusals of the fields
 
 module _ (t : Tables) (s : Step) where
-  pub fields_barred : (number : ℕ) → number ≡ input_refusal t.realm s → (number ≡ 0 → ⊥) → Refused number ≡ decided t s
+  pub fields_barred : (number : ℕ) → number ≡ input_refusal t.realm s → (number ≡ 0 → ⊥) → Err number ≡ decided t s
   unfolding decided
   fields_barred number e p = rw (← e, ne_eqb number 0 p)
 

@@ -1,13 +1,14 @@
 -- What the contracts of the steps say: which steps name a run, and a verdict that is pending.
 -- Assumes nothing.
-use Rattle.std.specs.Prelude.{ℕ, ◌<◌, ◌≡◌, ◌⊎◌, true, List}
+use Rattle.std.specs.Prelude.{ℕ, ◌<◌, ◌≡◌, ◌⊎◌, true, List, Result}
 use Rattle.replay.specs.declared.entry.Entry.{Entry}
 use Rattle.realm.specs.declared.header.Realm.{Realm}
 use Rattle.realm.specs.declared.input.Step.{Step}
 use Rattle.realm.specs.Input.{input_refusal}
 use Rattle.realm.specs.Tables.{tables, Together}
 use Rattle.conditions.specs.Conditions.{derivable_at}
-use Rattle.decisions.specs.declared.Verdict.{Verdict}
+use Rattle.decisions.specs.Decision.{Verdict}
+use Rattle.refusals.specs.declared.Refusal.{Refusal}
 use Rattle.receiving.specs.declared.Pending.{Pending}
 use Rattle.receiving.specs.Pending.{settled, asks}
 
@@ -25,6 +26,6 @@ abbrev pub Holding : Realm → (ts rs : List ℕ) → List Entry → Type 0
 Holding h ts rs cache = (ws : List ℕ) × Together (tables h ts rs ws cache)
 
 -- what is pending becomes the verdict of each wire; a term that is asked for is present
-pub record Pends (h : Realm) (ts : List ℕ) (m : ℕ) (p : Pending) (verdict : List ℕ → Verdict) : Type 0 where
+pub record Pends (h : Realm) (ts : List ℕ) (m : ℕ) (p : Result Pending Refusal) (verdict : List ℕ → Verdict) : Type 0 where
   pub present : asks p ≡ true → m < h.terms
   pub is : (ws : List ℕ) → settled p (derivable_at h ts ws m) ≡ verdict ws

@@ -3,48 +3,51 @@
 #![tactic(auto)]
 
 ghost use Rattle.std.specs.Prelude.{◌≡◌};
+ghost use Rattle.refusals.specs.Numbers.{numbered};
 ghost use Rattle.realm.specs.Tables.{tables};
 ghost use Rattle.decisions.specs.Decision.{opens_run, ticks, step_of, decided};
 ghost use Rattle.steps.specs.Named.{Named, Holding, Pends};
 
-use decisions::{Keeping, Sends, Verdict};
-use exchange::call::Names;
+use decisions::{Effect, Keeping, Sends};
 use exchange::need::fits;
 use exchange::run::Role;
 use realm::header::Realm;
-use realm::input::{Step, input_refusal};
-use receiving::{Pending, REFUSE_RUNS_FULL, accept, authenticate, finish, issue};
+use realm::input::{Step, check_input};
+use receiving::{Pending, accept, authenticate, finish, issue};
+use refusals::Refusal;
 use replay::entry::Entry;
 use rows::{MAX_RUNS, run_at};
 use verdicts::{opened, rest};
 
-pub const REFUSE_STAGE: u8 = 11;
-
-pub const REFUSE_CLOCK: u8 = 12;
-
 // Steps 1 and 2: a run of this role, and what it sends, if there is room for a run.
-fn begin(h: Realm, role: Role, a: u8, b: u8, sends: Sends) -> Verdict
-    ensures { result ≡ opens_run h role a b sends }
+fn begin(h: Realm, role: Role, a: u8, b: u8, sends: Sends) -> Result<Effect, Refusal>
+    ensures { numbered result ≡ opens_run h role a b sends }
 {
     if MAX_RUNS <= h.runs {
-        return Verdict::Refused(REFUSE_RUNS_FULL);
+        return Err(Refusal::RunsFull);
     }
     let r = h.runs as u8;
-    opened(h.clock, role, r, a, b, sends)
+    Ok(opened(h.clock, role, r, a, b, sends))
 }
 
 // Step 7.
-fn tick(h: Realm, t: u32) -> Verdict
-    ensures { result ≡ ticks h t }
+fn tick(h: Realm, t: u32) -> Result<Effect, Refusal>
+    ensures { numbered result ≡ ticks h t }
 {
     if t < h.clock {
-        return Verdict::Refused(REFUSE_CLOCK);
+        return Err(Refusal::Clock);
     }
-    rest(t, Keeping::Same, Sends::Nothing, Names::Nobody)
+    Ok(rest(t, Keeping::Same, Sends::Nothing, None))
 }
 
 // The steps that name a run: 4, 5, 6 and 9.
-fn with_run(h: Realm, terms: &[u64], runs: &[u32], cache: [Entry; 16], s: Step) -> Pending
+fn with_run(
+    h: Realm,
+    terms: &[u64],
+    runs: &[u32],
+    cache: [Entry; 16],
+    s: Step,
+) -> Result<Pending, Refusal>
     requires { Holding h terms.now runs.now cache × Named h s }
     ensures { Pends h terms.now s.m result (λ ws. step_of (tables h terms.now runs.now ws cache) s) }
 {
@@ -52,7 +55,7 @@ fn with_run(h: Realm, terms: &[u64], runs: &[u32], cache: [Entry; 16], s: Step) 
     let run = s.run;
     let own = run_at(runs, run as usize);
     if !fits(step, own) {
-        return Pending::Settled(Verdict::Refused(REFUSE_STAGE));
+        return Err(Refusal::Stage);
     }
     match step {
         4 => authenticate(h, terms, run, own, s.m),
@@ -60,38 +63,45 @@ fn with_run(h: Realm, terms: &[u64], runs: &[u32], cache: [Entry; 16], s: Step) 
         6 => finish(h, terms, run, own, s.m),
         _ => {
             let sends = Sends::Key(run as u16);
-            Pending::Settled(rest(h.clock, Keeping::Same, sends, Names::Run(run)))
+            let effect = rest(h.clock, Keeping::Same, sends, Some(run));
+            Ok(Pending::Settled(effect))
         }
     }
 }
 
 // What a step does, 15 and 20 apart. The tables hold together.
-pub fn by_row(h: Realm, terms: &[u64], runs: &[u32], cache: [Entry; 16], s: Step) -> Pending
+pub fn by_row(
+    h: Realm,
+    terms: &[u64],
+    runs: &[u32],
+    cache: [Entry; 16],
+    s: Step,
+) -> Result<Pending, Refusal>
     requires { Holding h terms.now runs.now cache }
     ensures { Pends h terms.now s.m result (λ ws. decided (tables h terms.now runs.now ws cache) s) }
 {
-    let number = input_refusal(h, s);
-    if number != 0 {
-        return Pending::Settled(Verdict::Refused(number));
-    }
-    let step = s.step;
-    match step {
+    check_input(h, s)?;
+    match s.step {
         1 => {
             let sends = Sends::Request {
                 a: s.a as u16,
                 b: s.b as u16,
                 n: h.runs as u16,
             };
-            Pending::Settled(begin(h, Role::Initiator, s.a, s.b, sends))
+            begin(h, Role::Initiator, s.a, s.b, sends).map(Pending::Settled)
         }
-        2 => Pending::Settled(begin(h, Role::Responder, s.a, s.b, Sends::Nothing)),
+        2 => begin(h, Role::Responder, s.a, s.b, Sends::Nothing).map(Pending::Settled),
         3 => issue(h, terms, s.m),
-        7 => Pending::Settled(tick(h, s.t)),
+        7 => tick(h, s.t).map(Pending::Settled),
         8 => {
             let keeping = Keeping::Forget(s.b as u16);
-            Pending::Settled(rest(h.clock, keeping, Sends::Nothing, Names::Nobody))
+            let effect = rest(h.clock, keeping, Sends::Nothing, None);
+            Ok(Pending::Settled(effect))
         }
-        10 => Pending::Asked(rest(h.clock, Keeping::Same, Sends::Nothing, Names::Nobody)),
+        10 => {
+            let effect = rest(h.clock, Keeping::Same, Sends::Nothing, None);
+            Ok(Pending::Asked(Ok(effect)))
+        }
         _ => with_run(h, terms, runs, cache, s),
     }
 }

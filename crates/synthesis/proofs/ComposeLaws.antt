@@ -1,6 +1,6 @@
 -- What follows from the definitions of the same name in specs/.
 -- Assumes nothing.
-use Rattle.std.specs.Prelude.{◌≡◌, refl, ◌⊎◌, true, false, List, ℕ, ◌<◌, get_or}
+use Rattle.std.specs.Prelude.{◌≡◌, refl, Option, Some, None, ◌⊎◌, true, false, List, ℕ, ◌<◌, get_or}
 use Rattle.std.proofs.Common.{sym, ◌∙◌, subst, inl, inr, ⊎_elim, arith}
 use Rattle.marks.specs.Marks.{marked}
 use Rattle.words.specs.declared.Term.{Term}
@@ -15,8 +15,6 @@ use Rattle.terms.proofs.RulesLaws.{Fields}
 use Rattle.terms.specs.Valid.{Valid}
 use Rattle.terms.proofs.Valid.{fields_at}
 use Rattle.words.proofs.Word.{TimeFits, time_fits}
-use Rattle.synthesis.specs.declared.compose.Operands.{Operands}
-use Rattle.synthesis.specs.declared.compose.Operands.TheVariants.{Two, Atom}
 use Rattle.deduction.specs.Known.{Known}
 use Rattle.deduction.proofs.Known.{known_self}
 use Rattle.deduction.specs.Public.{public_of}
@@ -30,11 +28,11 @@ Composable n flags ts count ws t = Synth n flags (Known ts count ws) (message_at
 
 -- ---- putting together, by operands
 
-abbrev TwoWay : (n flags : ℕ) (ts : List ℕ) (at : ℕ) (sub : ℕ → Message) (K : Message → Type 0) → Term → Operands → Type 0
-TwoWay n flags ts at sub K t (Two l r) = (l < at) × (r < at)
+abbrev TwoWay : (n flags : ℕ) (ts : List ℕ) (at : ℕ) (sub : ℕ → Message) (K : Message → Type 0) → Term → Option (ℕ × ℕ) → Type 0
+TwoWay n flags ts at sub K t (Some (l, r)) = (l < at) × (r < at)
     × (Synth n flags K (sub l) → Synth n flags K (sub r) → Synth n flags K (message_of sub t))
     × (Synth n flags K (message_of sub t) → K (message_of sub t) ⊎ (Synth n flags K (sub l) × Synth n flags K (sub r)))
-TwoWay n flags ts at sub K t Atom =
+TwoWay n flags ts at sub K t None =
     (public_of flags t ≡ true → Synth n flags K (message_of sub t))
     × (Synth n flags K (message_of sub t) → K (message_of sub t) ⊎ (public_of flags t ≡ true))
 
@@ -42,7 +40,7 @@ module _ (n flags : ℕ) (ts : List ℕ) (at : ℕ) (sub : ℕ → Message) (K :
     (is_key : (k : ℕ) → k < at → is_key (term_at ts k) ≡ true → sub k ≡ key (key_of (sub k))) where
   -- a term without operands is public or not
   atom : (t : Term) → Fields n ts at t → TimeFits t → (Free n flags (message_of sub t) → Synth n flags K (message_of sub t))
-      → (Synth n flags K (message_of sub t) → K (message_of sub t) ⊎ Free n flags (message_of sub t)) → TwoWay n flags ts at sub K t Atom
+      → (Synth n flags K (message_of sub t) → K (message_of sub t) ⊎ Free n flags (message_of sub t)) → TwoWay n flags ts at sub K t None
   atom t f h put split =
       (λ e. put (public_free n flags ts at sub t f h e), λ y. ⊎_elim (λ k. inl k) (λ z. inr (free_public n flags ts at sub t f z)) (split y))
 
@@ -81,15 +79,15 @@ module _ (flags : ℕ) {n : ℕ} {ts : List ℕ} {count : ℕ} (v : Valid n ts c
   unknown m k = no_true (sym m ∙ known_self flags ws v t h (subst (Known ts count ws) (sym (message_at_lem v.terms t h)) k))
 
   -- it is not in the set, and has no operands
-  pub composable_atom : marked ws t ≡ false → operands_of (term_at ts t) ≡ Atom
+  pub composable_atom : marked ws t ≡ false → operands_of (term_at ts t) ≡ None
       → Decides (public_of flags (term_at ts t)) (Composable n flags ts count ws t)
   composable_atom m e =
-      let way : TwoWay n flags ts t (message_at ts) (Known ts count ws) (term_at ts t) Atom =
+      let way : TwoWay n flags ts t (message_at ts) (Known ts count ws) (term_at ts t) None =
       subst (TwoWay n flags ts t (message_at ts) (Known ts count ws) (term_at ts t)) e here in
       record { yes = λ q. to (way.0 q); no = λ q y. ⊎_elim (unknown m) (λ z. no_true (sym q ∙ z)) (way.1 (from y)) }
 
-  module _ (l r : ℕ) (e : operands_of (term_at ts t) ≡ Two l r) where
-    ways : TwoWay n flags ts t (message_at ts) (Known ts count ws) (term_at ts t) (Two l r)
+  module _ (l r : ℕ) (e : operands_of (term_at ts t) ≡ Some (l, r)) where
+    ways : TwoWay n flags ts t (message_at ts) (Known ts count ws) (term_at ts t) (Some (l, r))
     ways = subst (TwoWay n flags ts t (message_at ts) (Known ts count ws) (term_at ts t)) e here
 
     pub left_below : l < t

@@ -13,10 +13,11 @@ use Rattle.deduction.specs.Derives.{Derives}
 use Rattle.deduction.specs.Known.{Known, Derivable, Saturated}
 use Rattle.deduction.specs.Public.{public_of}
 use Rattle.deduction.proofs.Secrecy.{derives_more}
-use Rattle.synthesis.specs.Knowledge.{found_in, Knows}
+use Rattle.synthesis.specs.Knowledge.{Knows}
+use Rattle.synthesis.specs.declared.knowledge.Knowledge.{Knowledge}
 
 module _ {flags n : ℕ} {ts : List ℕ} {count : ℕ} (v : Valid n ts count) (ts' : List ℕ) (count' : ℕ) (same : Agree ts ts' count) (more : count ≤ count')
-    {ws ks : List ℕ} (known : Knows n flags ts count ws ks) where
+    {ws : List ℕ} {ks : Knowledge} (known : Knows n flags ts count ws ks) where
   term_same : (i : ℕ) → i < count → term_at ts i ≡ term_at ts' i
   term_same i h = ap term_of (same i h)
 
@@ -37,7 +38,7 @@ module _ {flags n : ℕ} {ts : List ℕ} {count : ℕ} (v : Valid n ts count) (t
   derivable_earlier : (k : ℕ) → k < count → Derivable n flags ts' count' ws k → Derivable n flags ts count ws k
   derivable_earlier k h d = subst (Derives n flags (Known ts count ws)) (sym (means_same k h)) (derives_more earlier d)
 
-  saturated_later : Saturated flags ts' count' (found_in ks)
+  saturated_later : Saturated flags ts' count' ks.found
   saturated_later =
       record {
         halves = λ i l r h m e. let lt = known.below.1 i m in known.found.full.halves i l r lt m (term_same i lt ∙ e);

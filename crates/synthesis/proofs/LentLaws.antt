@@ -1,6 +1,6 @@
 -- What follows from the definitions of the same name in specs/.
 -- Assumes nothing.
-use Rattle.std.specs.Prelude.{◌≡◌, ◌↔◌, Bool, ◌&&◌, cond, List, ℕ, ◌<◌, ◌^◌, ltb, length, get_or}
+use Rattle.std.specs.Prelude.{◌≡◌, Result, Ok, Err, ◌↔◌, Bool, ◌&&◌, cond, List, ℕ, ◌<◌, ◌^◌, ltb, length, get_or}
 use Rattle.std.proofs.Math.Path.{refl, sym}
 use Rattle.std.proofs.Common.{ap, ◌∙◌, arith}
 use Rattle.std.proofs.Math.Bool.{true, false, and-eq-true_iff}
@@ -17,8 +17,6 @@ use Rattle.terms.proofs.Choice.{proved, refuted, same_answer}
 use Rattle.terms.specs.Valid.{Valid, holds}
 use Rattle.terms.proofs.Valid.{holds_valid, valid_holds}
 use Rattle.deduction.specs.Known.{Derivable}
-use Rattle.synthesis.specs.declared.lent.Answer.{Answer}
-use Rattle.synthesis.specs.declared.lent.Answer.TheVariants as answer
 use Rattle.synthesis.proofs.AllLaws.{derivable_set}
 use Rattle.synthesis.specs.Test.{derivable_of}
 use Rattle.synthesis.proofs.Test.{test_decides}
@@ -91,7 +89,7 @@ module _ {n flags : ℕ} {ts : List ℕ} {count : ℕ} {ws : List ℕ} (fit : (j
       test_decides flags h.0 (record { len = h.1; fit = fit }) t lt
 
   by_tests : (h l d : Bool) → tables_hold n ts count ws ≡ h → ltb t count ≡ l → derivable_of flags ts count ws t ≡ d
-      → Applies n flags ts count ws t (cond h (cond l (cond d answer.Derivable answer.Underivable) (answer.Refused 6)) (answer.Refused 10))
+      → Applies n flags ts count ws t (cond h (cond l (Ok d) (Err 6)) (Err 10))
   by_tests false l d e _ _ = bad_tables e
   by_tests true false d e l _ = absent e (ltb-false t count l)
   by_tests true true true e l q = let lt = ltb-true t count l in derivable e lt ((decides e lt).yes q)
@@ -101,7 +99,7 @@ module _ {n flags : ℕ} {ts : List ℕ} {count : ℕ} {ws : List ℕ} (fit : (j
   unfolding can_derive
   answer_applies = by_tests (tables_hold n ts count ws) (ltb t count) (derivable_of flags ts count ws t) refl refl refl
 
-  pub applies_answer : {r : Answer} → Applies n flags ts count ws t r → can_derive n flags ts count ws t ≡ r
+  pub applies_answer : {r : Result Bool ℕ} → Applies n flags ts count ws t r → can_derive n flags ts count ws t ≡ r
   unfolding can_derive
   applies_answer (bad_tables e) = rw e
   applies_answer (absent e le) = rw (e, le-ltb t count le)

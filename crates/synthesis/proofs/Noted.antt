@@ -1,12 +1,11 @@
 -- What is known stays true when an answer is noted, and the ways of the descent to its answer.
 -- Assumes nothing.
-use Rattle.std.specs.Prelude.{◌≡◌, ◌⊎◌, Bool, List, ℕ, ◌+◌, ◌*◌, ◌<◌, length}
+use Rattle.std.specs.Prelude.{◌≡◌, ◌⊎◌, Bool, List, ℕ, ◌*◌, ◌<◌, length}
 use Rattle.std.proofs.Math.Path.{refl}
 use Rattle.std.proofs.Common.{sym, ap, ◌∙◌, subst, inl, inr, ⊎_elim, arith}
 use Rattle.std.proofs.Math.Bool.{true, false}
 use Rattle.marks.specs.Marks.{Words, marked, with_mark}
 use Rattle.marks.proofs.Marks.{marked_same, marked_keeps, marked_new, with_length}
-use Rattle.marks.proofs.Parts.{part_length, part_with, part_later, part_earlier}
 use Rattle.marks.specs.Within.{Below}
 use Rattle.words.specs.declared.Term.{Term}
 use Rattle.words.specs.declared.Term.TheVariants.{Principal, Time, Nonce, LongTermKey, SessionKey, Pair, Encrypted, Unknown}
@@ -15,22 +14,22 @@ use Rattle.terms.proofs.Choice.{proved, refuted, no_true, same_answer}
 use Rattle.terms.specs.Rules.{term_at, is_key}
 use Rattle.terms.specs.Valid.{Valid}
 use Rattle.terms.proofs.Valid.{fields_of_lem}
-use Rattle.deduction.specs.Known.{Derivable, Saturated, Filled}
+use Rattle.deduction.specs.Known.{Derivable, Saturated}
 use Rattle.deduction.specs.Public.{public_of}
-use Rattle.synthesis.specs.declared.compose.Operands.{Operands}
-use Rattle.synthesis.specs.declared.compose.Operands.TheVariants.{Two, Atom}
+use Rattle.std.specs.Prelude.{Option, Some, None}
 use Rattle.synthesis.specs.Compose.{operands_of}
 use Rattle.synthesis.proofs.ComposeLaws.{composable_atom, together, apart}
 use Rattle.synthesis.specs.Test.{derivable_of}
 use Rattle.synthesis.proofs.Test.{decided, derives_composable, composable_derives, test_decides}
-use Rattle.synthesis.specs.Knowledge.{wire_in, found_in, missed_in, Knows, Kept, note_of, ComposedIs}
+use Rattle.synthesis.specs.Knowledge.{as_known, Knows, Kept, note_of, ComposedIs}
+use Rattle.synthesis.specs.declared.knowledge.Knowledge.{Knowledge}
 
 -- ---- a set that takes a term with its operands stays saturated
 
 -- a term can go into the set s: its operands are there, or it has none and is public
-abbrev pub Closes : (flags : ℕ) (s : List ℕ) → Term → Operands → Type 0
-Closes flags s t (Two l r) = (marked s l ≡ true) × (marked s r ≡ true)
-Closes flags s t Atom = public_of flags t ≡ true
+abbrev pub Closes : (flags : ℕ) (s : List ℕ) → Term → Option (ℕ × ℕ) → Type 0
+Closes flags s t (Some (l, r)) = (marked s l ≡ true) × (marked s r ≡ true)
+Closes flags s t None = public_of flags t ≡ true
 
 -- a key has no operands
 key_public : (flags : ℕ) (s : List ℕ) (t : Term) → is_key t ≡ true → Closes flags s t (operands_of t) → public_of flags t ≡ true
@@ -79,172 +78,128 @@ module _ (flags : ℕ) {n : ℕ} {ts : List ℕ} {count : ℕ} (v : Valid n ts c
 
 -- ---- an answer is noted
 
-module _ {flags n : ℕ} {ts : List ℕ} {count : ℕ} (v : Valid n ts count) {ws ks : List ℕ} (known : Knows n flags ts count ws ks) (t : ℕ) (h : t < count) where
-  t512 : t < 512
-  t512 = omega (arith, v.room)
-
+module _ {flags n : ℕ} {ts : List ℕ} {count : ℕ} (v : Valid n ts count) {ws : List ℕ} {ks : Knowledge} (known : Knows n flags ts count ws ks) (t : ℕ) (h : t < count) where
   t_in : (s : List ℕ) → length s ≡ 8 → t < 64 * length s
-  t_in s e = omega (arith, t512)
-
-  found_size : length (found_in ks) ≡ 8
-  found_size = part_length 8 ks (omega (arith, known.size))
-
-  missed_size : length (missed_in ks) ≡ 8
-  missed_size = part_length 16 ks (omega (arith, known.size))
+  t_in s e = omega (arith, v.room)
 
   below_with : (s : List ℕ) → length s ≡ 8 → Below count s → Below count (with_mark s t)
   below_with s e b i m = ⊎_elim (λ q. omega (arith, h)) (b i) (marked_new s t (t_in s e) i m)
 
+  pub found_in : t < 64 * length ks.found
+  found_in = t_in ks.found known.size.0
+
   -- as derivable
-  module _ (d : Derivable n flags ts count ws t) (closes : Closes flags (found_in ks) (term_at ts t) (operands_of (term_at ts t))) where
-    found_next : found_in (with_mark ks (512 + t)) ≡ with_mark (found_in ks) t
-    found_next = part_with 8 ks t t512
-
-    missed_next : missed_in (with_mark ks (512 + t)) ≡ missed_in ks
-    missed_next = part_later 8 ks t t512 16 (omega arith)
-
-    pub found_wire : wire_in (with_mark ks (512 + t)) ≡ wire_in ks
-    found_wire = part_earlier 8 ks t t512 0 (omega arith)
-
-    pub found_keeps : (k : ℕ) → marked (found_in ks) k ≡ true → marked (found_in (with_mark ks (512 + t))) k ≡ true
-    found_keeps k m = ap (λ (s : List ℕ). marked s k) found_next ∙ marked_keeps (found_in ks) t (t_in (found_in ks) found_size) k m
-
-    pub found_marks : marked (found_in (with_mark ks (512 + t))) t ≡ true
-    found_marks = ap (λ (s : List ℕ). marked s t) found_next ∙ marked_same (found_in ks) t (t_in (found_in ks) found_size)
-
-    pub found_knows : Knows n flags ts count ws (with_mark ks (512 + t))
-    found_knows =
-        record {
-          size = with_length ks (512 + t) ∙ known.size;
-          found =
-              subst (Filled n flags ts count ws) (sym found_next)
-              (record {
-                holds = λ k lt m. marked_keeps (found_in ks) t (t_in (found_in ks) found_size) k (known.found.holds k lt m);
-                sound = λ k lt m.
-                    ⊎_elim (λ q. subst (Derivable n flags ts count ws) (sym q) d) (known.found.sound k lt) (marked_new (found_in ks) t (t_in (found_in ks) found_size) k m);
-                full = with_saturated flags v found_size known.found.full t h closes;
-              });
-          missed = λ k lt m. known.missed k lt (ap (λ (s : List ℕ). marked s k) (sym missed_next) ∙ m);
-          below = (
-            known.below.0,
-            subst (Below count) (sym found_next) (below_with (found_in ks) found_size known.below.1),
-            subst (Below count) (sym missed_next) known.below.2,
-          );
-        }
+  pub found_knows : Derivable n flags ts count ws t → Closes flags ks.found (term_at ts t) (operands_of (term_at ts t))
+      → Knows n flags ts count ws (as_known ks.wire (with_mark ks.found t) ks.missed)
+  found_knows d closes =
+      record {
+        size = (with_length ks.found t ∙ known.size.0, known.size.1);
+        found =
+            record {
+              holds = λ k lt m. marked_keeps ks.found t found_in k (known.found.holds k lt m);
+              sound = λ k lt m. ⊎_elim (λ q. subst (Derivable n flags ts count ws) (sym q) d) (known.found.sound k lt) (marked_new ks.found t found_in k m);
+              full = with_saturated flags v known.size.0 known.found.full t h closes;
+            };
+        missed = known.missed;
+        below = (known.below.0, below_with ks.found known.size.0 known.below.1, known.below.2);
+      }
 
   -- as not derivable
-  module _ (no : ¬ (Derivable n flags ts count ws t)) where
-    same_found : found_in (with_mark ks (1024 + t)) ≡ found_in ks
-    same_found = part_earlier 16 ks t t512 8 (omega arith)
-
-    more_missed : missed_in (with_mark ks (1024 + t)) ≡ with_mark (missed_in ks) t
-    more_missed = part_with 16 ks t t512
-
-    pub missed_wire : wire_in (with_mark ks (1024 + t)) ≡ wire_in ks
-    missed_wire = part_earlier 16 ks t t512 0 (omega arith)
-
-    pub missed_keeps : (k : ℕ) → marked (found_in ks) k ≡ true → marked (found_in (with_mark ks (1024 + t))) k ≡ true
-    missed_keeps k m = ap (λ (s : List ℕ). marked s k) same_found ∙ m
-
-    pub missed_knows : Knows n flags ts count ws (with_mark ks (1024 + t))
-    missed_knows =
-        record {
-          size = with_length ks (1024 + t) ∙ known.size;
-          found = subst (Filled n flags ts count ws) (sym same_found) known.found;
-          missed = λ k lt m.
-              ⊎_elim (λ q. subst (λ (i : ℕ). ¬ (Derivable n flags ts count ws i)) (sym q) no) (known.missed k lt)
-              (marked_new (missed_in ks) t (t_in (missed_in ks) missed_size) k (ap (λ (s : List ℕ). marked s k) (sym more_missed) ∙ m));
-          below = (
-            known.below.0,
-            subst (Below count) (sym same_found) known.below.1,
-            subst (Below count) (sym more_missed) (below_with (missed_in ks) missed_size known.below.2),
-          );
-        }
+  pub missed_knows : ¬ (Derivable n flags ts count ws t) → Knows n flags ts count ws (as_known ks.wire ks.found (with_mark ks.missed t))
+  missed_knows never =
+      record {
+        size = (known.size.0, with_length ks.missed t ∙ known.size.1);
+        found = known.found;
+        missed = λ k lt m.
+            ⊎_elim (λ q. subst (λ (i : ℕ). ¬ (Derivable n flags ts count ws i)) (sym q) never) (known.missed k lt)
+            (marked_new ks.missed t (t_in ks.missed known.size.1) k m);
+        below = (known.below.0, known.below.1, below_with ks.missed known.size.1 known.below.2);
+      }
 
 -- ---- the ways of the descent to its answer
 
-module _ {flags n : ℕ} {ts : List ℕ} {count : ℕ} (v : Valid n ts count) {ws ks : List ℕ} (known : Knows n flags ts count ws ks) (wire : wire_in ks ≡ ws)
+module _ {flags n : ℕ} {ts : List ℕ} {count : ℕ} (v : Valid n ts count) {ws : List ℕ} {ks : Knowledge} (known : Knows n flags ts count ws ks) (wire : ks.wire ≡ ws)
     (t : ℕ) (h : t < count) where
   -- the term was found, or missed, before
-  pub composed_found : marked (found_in ks) t ≡ true → ComposedIs n flags ts count ws t true ks ks
+  pub composed_found : marked ks.found t ≡ true → ComposedIs n flags ts count ws t true ks ks
   composed_found m =
       record { knows = known; wire = wire; keeps = λ k q. q; finds = λ _. m; answer = proved (known.found.sound t h m) }
 
-  pub composed_missed : marked (missed_in ks) t ≡ true → ComposedIs n flags ts count ws t false ks ks
+  pub composed_missed : marked ks.missed t ≡ true → ComposedIs n flags ts count ws t false ks ks
   composed_missed m =
       record { knows = known; wire = wire; keeps = λ k q. q; finds = λ e. no_true e; answer = refuted (known.missed t h m) }
 
   -- it was neither, and its answer is noted, in what is known after its operands were asked for
-  noted : {ks₁ : List ℕ} → Knows n flags ts count ws ks₁ → wire_in ks₁ ≡ ws
-      → ((k : ℕ) → marked (found_in ks) k ≡ true → marked (found_in ks₁) k ≡ true) → (ok : Bool) → Decides ok (Derivable n flags ts count ws t)
-      → (ok ≡ true → Closes flags (found_in ks₁) (term_at ts t) (operands_of (term_at ts t)))
+  noted : {ks₁ : Knowledge} → Knows n flags ts count ws ks₁ → ks₁.wire ≡ ws
+      → ((k : ℕ) → marked ks.found k ≡ true → marked ks₁.found k ≡ true) → (ok : Bool) → Decides ok (Derivable n flags ts count ws t)
+      → (ok ≡ true → Closes flags ks₁.found (term_at ts t) (operands_of (term_at ts t)))
       → ComposedIs n flags ts count ws t ok ks (note_of ks₁ t ok)
   unfolding note_of
   noted {ks₁} known₁ wire₁ keeps₁ true d c =
       let sure = d.yes refl in
       record {
         knows = found_knows v known₁ t h sure (c refl);
-        wire = found_wire v known₁ t h sure (c refl) ∙ wire₁;
-        keeps = λ k m. found_keeps v known₁ t h sure (c refl) k (keeps₁ k m);
-        finds = λ _. found_marks v known₁ t h sure (c refl);
+        wire = wire₁;
+        keeps = λ k m. marked_keeps ks₁.found t (found_in v known₁ t h) k (keeps₁ k m);
+        finds = λ _. marked_same ks₁.found t (found_in v known₁ t h);
         answer = d;
       }
   noted {ks₁} known₁ wire₁ keeps₁ false d c =
       let never = d.no refl in
       record {
         knows = missed_knows v known₁ t h never;
-        wire = missed_wire v known₁ t h never ∙ wire₁;
-        keeps = λ k m. missed_keeps v known₁ t h never k (keeps₁ k m);
+        wire = wire₁;
+        keeps = keeps₁;
         finds = λ e. no_true e;
         answer = d;
       }
 
-  module _ (away : marked (found_in ks) t ≡ false) where
+  module _ (away : marked ks.found t ≡ false) where
     -- it has no operands
-    pub composed_atom : operands_of (term_at ts t) ≡ Atom → (ok : Bool) → ok ≡ public_of flags (term_at ts t)
-        → {x : Bool} {ks₁ : List ℕ} → (x ≡ ok) × (ks₁ ≡ note_of ks t ok) → ComposedIs n flags ts count ws t x ks ks₁
+    pub composed_atom : operands_of (term_at ts t) ≡ None → (ok : Bool) → ok ≡ public_of flags (term_at ts t)
+        → {x : Bool} {ks₁ : Knowledge} → (x ≡ ok) × (ks₁ ≡ note_of ks t ok) → ComposedIs n flags ts count ws t x ks ks₁
     composed_atom e ok p s =
         rw (s.0, s.1)
-        (noted known wire (λ k m. m) ok (rw p (decided flags v known.found t (composable_atom flags v (found_in ks) t h away e)))
-        (λ q. subst (Closes flags (found_in ks) (term_at ts t)) (sym e) (sym p ∙ q)))
+        (noted known wire (λ k m. m) ok (rw p (decided flags v known.found t (composable_atom flags v ks.found t h away e)))
+        (λ q. subst (Closes flags ks.found (term_at ts t)) (sym e) (sym p ∙ q)))
 
-    module _ (l r : ℕ) (e : operands_of (term_at ts t) ≡ Two l r) where
+    module _ (l r : ℕ) (e : operands_of (term_at ts t) ≡ Some (l, r)) where
       halves : Derivable n flags ts count ws t → Derivable n flags ts count ws l × Derivable n flags ts count ws r
       halves d =
-          let c = apart flags v (found_in ks) t h l r e away (derives_composable flags v known.found t d) in
+          let c = apart flags v ks.found t h l r e away (derives_composable flags v known.found t d) in
           (composable_derives flags v known.found l c.0, composable_derives flags v known.found r c.1)
 
       both : Derivable n flags ts count ws l → Derivable n flags ts count ws r → Derivable n flags ts count ws t
       both a b =
           composable_derives flags v known.found t
-          (together flags v (found_in ks) t h l r e (derives_composable flags v known.found l a) (derives_composable flags v known.found r b))
+          (together flags v ks.found t h l r e (derives_composable flags v known.found l a) (derives_composable flags v known.found r b))
 
       -- the first operand cannot be derived
-      pub composed_left : {ok : Bool} {ks₁ : List ℕ} → ok ≡ false → ComposedIs n flags ts count ws l ok ks ks₁
-          → {x : Bool} {ks₂ : List ℕ} → (x ≡ false) × (ks₂ ≡ note_of ks₁ t false) → ComposedIs n flags ts count ws t x ks ks₂
+      pub composed_left : {ok : Bool} {ks₁ : Knowledge} → ok ≡ false → ComposedIs n flags ts count ws l ok ks ks₁
+          → {x : Bool} {ks₂ : Knowledge} → (x ≡ false) × (ks₂ ≡ note_of ks₁ t false) → ComposedIs n flags ts count ws t x ks ks₂
       composed_left q a s =
           rw (s.0, s.1) (noted a.knows a.wire a.keeps false (refuted (λ d. a.answer.no q (halves d).0)) (λ y. no_true y))
 
       -- it can, so all hangs on the second
-      pub composed_right : {ok : Bool} {ks₁ : List ℕ} → ok ≡ true → ComposedIs n flags ts count ws l ok ks ks₁
-          → {ok₂ : Bool} {ks₂ : List ℕ} → ComposedIs n flags ts count (wire_in ks₁) r ok₂ ks₁ ks₂
-          → {x : Bool} {ks₃ : List ℕ} → (x ≡ ok₂) × (ks₃ ≡ note_of ks₂ t ok₂) → ComposedIs n flags ts count ws t x ks ks₃
+      pub composed_right : {ok : Bool} {ks₁ : Knowledge} → ok ≡ true → ComposedIs n flags ts count ws l ok ks ks₁
+          → {ok₂ : Bool} {ks₂ : Knowledge} → ComposedIs n flags ts count ks₁.wire r ok₂ ks₁ ks₂
+          → {x : Bool} {ks₃ : Knowledge} → (x ≡ ok₂) × (ks₃ ≡ note_of ks₂ t ok₂) → ComposedIs n flags ts count ws t x ks ks₃
       composed_right {ks₁ = ks₁} q a {ok₂} {ks₂} b s =
           let b' = subst (λ (w : List ℕ). ComposedIs n flags ts count w r ok₂ ks₁ ks₂) a.wire b in
           rw (s.0, s.1)
           (noted b'.knows b'.wire (λ k m. b'.keeps k (a.keeps k m)) ok₂
           (record { yes = λ y. both (a.answer.yes q) (b'.answer.yes y); no = λ y d. b'.answer.no y (halves d).1 })
-          (λ y. subst (Closes flags (found_in ks₂) (term_at ts t)) (sym e) (b'.keeps l (a.finds q), b'.finds y)))
+          (λ y. subst (Closes flags ks₂.found (term_at ts t)) (sym e) (b'.keeps l (a.finds q), b'.finds y)))
 
 -- ---- after it
 
-pub kept_after : {flags n : ℕ} {ts : List ℕ} {count : ℕ} {ws : List ℕ} {t : ℕ} {ok : Bool} {ks ks' : List ℕ}
+pub kept_after : {flags n : ℕ} {ts : List ℕ} {count : ℕ} {ws : List ℕ} {t : ℕ} {ok : Bool} {ks ks' : Knowledge}
     → ComposedIs n flags ts count ws t ok ks ks' → Kept n flags ts count ks'
 kept_after {flags} {n} {ts} {count} {ks' = ks'} a = subst (λ (w : List ℕ). Knows n flags ts count w ks') (sym a.wire) a.knows
 
 -- the answer on a term, from what is known of the wire ws
-pub answered : (flags : ℕ) {n : ℕ} {ts : List ℕ} {count : ℕ} → Valid n ts count → {ws ks ks' : List ℕ} → wire_in ks ≡ ws → Words 8 ws → (t : ℕ) → t < count
-    → {ok : Bool} → ComposedIs n flags ts count (wire_in ks) t ok ks ks' → (ok ≡ derivable_of flags ts count ws t) × Kept n flags ts count ks'
+pub answered : (flags : ℕ) {n : ℕ} {ts : List ℕ} {count : ℕ} → Valid n ts count → {ws : List ℕ} {ks ks' : Knowledge} → ks.wire ≡ ws → Words 8 ws → (t : ℕ) → t < count
+    → {ok : Bool} → ComposedIs n flags ts count ks.wire t ok ks ks' → (ok ≡ derivable_of flags ts count ws t) × Kept n flags ts count ks'
 answered flags {n} {ts} {count} v {ws} e w t h {ok} a = (
   same_answer ok _ (subst (λ (x : List ℕ). Decides ok (Derivable n flags ts count x t)) e a.answer) (test_decides flags v w t h),
   kept_after a,

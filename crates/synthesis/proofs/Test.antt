@@ -1,6 +1,6 @@
 -- What follows from the definitions of the same name in specs/.
 -- Assumes nothing.
-use Rattle.std.specs.Prelude.{◌≡◌, refl, Bool, ◌&&◌, List, eqb}
+use Rattle.std.specs.Prelude.{◌≡◌, refl, Option, Some, None, Bool, ◌&&◌, List, eqb}
 use Rattle.std.proofs.Common.{subst, arith, eqb-true}
 use Rattle.std.proofs.Math.Bool.{true, false}
 use Prim.Native.Nat.{ℕ, zero, suc, ◌-◌, ◌<◌}
@@ -12,8 +12,6 @@ use Rattle.terms.specs.Descend.{layers, descend}
 use Rattle.terms.specs.Meaning.{message_at}
 use Rattle.terms.specs.Rules.{term_at}
 use Rattle.terms.specs.Valid.{Valid}
-use Rattle.synthesis.specs.declared.compose.Operands.{Operands}
-use Rattle.synthesis.specs.declared.compose.Operands.TheVariants.{Two, Atom}
 use Rattle.synthesis.specs.Compose.{operands_of}
 use Rattle.synthesis.proofs.ComposeLaws.{Composable, composable_known, composable_atom, left_below, right_below, together, apart}
 use Rattle.deduction.specs.Derives.{Derives}
@@ -46,12 +44,12 @@ both_decide false b f g i o = refuted (λ y. f.no refl (o y).0)
 
 module _ (flags : ℕ) {n : ℕ} {ts : List ℕ} {count : ℕ} (v : Valid n ts count) (ws : List ℕ) where
   made : (t : ℕ) → t < count → marked ws t ≡ false → (sub : ℕ → Bool) → ((k : ℕ) → k < t → Decides (sub k) (Composable n flags ts count ws k))
-      → (o : Operands) → operands_of (term_at ts t) ≡ o
+      → (o : Option (ℕ × ℕ)) → operands_of (term_at ts t) ≡ o
       → Decides (made_of sub (public_of flags (term_at ts t)) o) (Composable n flags ts count ws t)
-  made t h m sub d (Two l r) e =
+  made t h m sub d (Some (l, r)) e =
       both_decide (sub l) (sub r) (d l (left_below flags v ws t h l r e)) (d r (right_below flags v ws t h l r e))
       (together flags v ws t h l r e) (apart flags v ws t h l r e m)
-  made t h m sub d Atom e = composable_atom flags v ws t h m e
+  made t h m sub d None e = composable_atom flags v ws t h m e
 
   layers_decide : (depth t : ℕ) → t < depth → t < count → Decides (layers false (compose_by flags ts ws) depth t) (Composable n flags ts count ws t)
   unfolding layers

@@ -2,11 +2,10 @@
 -- Assumes nothing.
 use Rattle.words.specs.declared.Term.{Term}
 use Rattle.terms.specs.Operands.{by_operands}
-use Rattle.synthesis.specs.declared.compose.Operands.{Operands}
-use Rattle.synthesis.specs.declared.compose.Operands.TheVariants.{Two, Atom}
+use Rattle.std.specs.Prelude.{ℕ, Option, Some, None}
 
 -- ---- definitions
 
--- a term's operands
-abbrev pub operands_of : Term → Operands
-operands_of = by_operands Atom Two Two
+-- a term's operands, if it has any
+abbrev pub operands_of : Term → Option (ℕ × ℕ)
+operands_of = by_operands None (λ l r. Some (l, r)) (λ b k. Some (b, k))

@@ -1,14 +1,12 @@
 -- The test as a function: sweeps until one adds nothing, then the descent. The code keeps a list in place of sweeps and
 -- remembers what it put together; the answer is the same, since both decide `Derivable`.
 -- Assumes nothing.
-use Rattle.std.specs.Prelude.{Bool, ◌&&◌, cond, List, eqb}
+use Rattle.std.specs.Prelude.{Option, Some, None, Bool, ◌&&◌, cond, List, eqb}
 use Rattle.std.proofs.Math.Bool.{true, false}
 use Prim.Native.Nat.{ℕ, zero, suc}
 use Rattle.marks.specs.Marks.{marked, size}
 use Rattle.terms.specs.Descend.{descend}
 use Rattle.terms.specs.Rules.{term_at}
-use Rattle.synthesis.specs.declared.compose.Operands.{Operands}
-use Rattle.synthesis.specs.declared.compose.Operands.TheVariants.{Two, Atom}
 use Rattle.synthesis.specs.Compose.{operands_of}
 use Rattle.deduction.specs.Public.{public_of}
 use Rattle.synthesis.specs.Sweep.{sweep_of}
@@ -23,9 +21,9 @@ saturate_of flags ts count (suc fuel) ws =
     cond (eqb (size next) (size ws)) ws (saturate_of flags ts count fuel next)
 
 -- both operands can be put together, or an atom is public
-abbrev pub made_of : (ℕ → Bool) → Bool → Operands → Bool
-made_of sub free (Two l r) = sub l && sub r
-made_of sub free Atom = free
+abbrev pub made_of : (ℕ → Bool) → Bool → Option (ℕ × ℕ) → Bool
+made_of sub free (Some (l, r)) = sub l && sub r
+made_of sub free None = free
 
 -- term t is in the set or can be made, given the answers on its operands
 abbrev pub compose_by : (flags : ℕ) (ts ws : List ℕ) (t : ℕ) → (ℕ → Bool) → Bool

@@ -7,40 +7,35 @@ ghost use Rattle.terms.specs.Add.{add_outcome, add_of};
 ghost use Rattle.terms.specs.Table.{find_of};
 ghost use Rattle.terms.specs.Valid.{Valid};
 
-use term_rules::refusal;
-use terms::rules::REFUSE_FULL;
-use terms::table::{Added, Found, MAX_TERMS};
+use refusals::Refusal;
+use term_rules::check_word;
+use terms::table::{Added, MAX_TERMS};
 
 // The place of a word among the first `count`.
-pub fn find(terms: &[u64], count: usize, word: u64) -> Found
+pub fn find(terms: &[u64], count: usize, word: u64) -> Option<usize>
     requires { count ≤ length terms.now }
     ensures { result ≡ find_of terms.now count word }
 {
-    let mut i = count;
-    while 0 < i {
-        i -= 1;
+    for i in (0..count).rev() {
         if terms[i] == word {
-            return Found::At(i);
+            return Some(i);
         }
     }
-    Found::Nothing
+    None
 }
 
 // Adds a term under the rules.
-pub fn add(terms: &mut [u64], count: usize, n: u16, word: u64) -> Added
+pub fn add(terms: &mut [u64], count: usize, n: u16, word: u64) -> Result<Added, Refusal>
     requires { Valid n terms.old count }
     ensures { add_outcome result count terms.new ≡ add_of n terms.old count word }
 {
-    let number = refusal(terms, n, count, word);
-    if number != 0 {
-        return Added::Refused(number);
-    }
-    if let Found::At(i) = find(terms, count, word) {
-        return Added::Old(i);
+    check_word(terms, n, count, word)?;
+    if let Some(i) = find(terms, count, word) {
+        return Ok(Added::Old(i));
     }
     if count == MAX_TERMS {
-        return Added::Refused(REFUSE_FULL);
+        return Err(Refusal::TermsFull);
     }
     terms[count] = word;
-    Added::New(count)
+    Ok(Added::New(count))
 }

@@ -1,60 +1,25 @@
-// A table with a draft, by value, and what a line does with them.
-use super::show::{print_added, print_lookup, print_stored};
-use cases::{Line, least, print_changes, print_text, word};
+// A table with a draft, and what a line does with them.
+use super::show::{print_added, print_found, print_stored};
+use cases::{Line, print_changes, word};
 use drafts::{DraftKey, Node};
-use lent_terms::{Lookup, add_term, find_term};
-use messages::lent::{Stored, add_message};
-use terms::table::Added;
+use lent_terms::{add_term, find_term};
+use messages::lent::add_message;
+use terms::table::{Added, MAX_TERMS};
 
 const PRINCIPALS: u16 = 3;
 
 // The table has a place more than it should.
 #[derive(Clone, Copy)]
 pub struct Table {
-    pub terms: [u64; 513],
-    pub count: usize,
+    terms: [u64; 513],
+    count: usize,
     // how many places are lent
-    pub places: usize,
-    // kind, x and y of each node of the draft
-    pub nodes: [u32; 48],
-}
-
-pub fn new() -> Table {
-    Table {
-        terms: [77777777777777; 513],
-        count: 0,
-        places: 512,
-        nodes: [0; 48],
-    }
+    places: usize,
+    draft: [Node; 16],
 }
 
 fn half(x: u32) -> u16 {
     (x % 65536) as u16
-}
-
-fn set_counts(t: Table, count: usize, places: usize) -> Table {
-    let mut next = t;
-    next.count = count;
-    next.places = places;
-    next
-}
-
-fn set_term(t: Table, place: usize, term: u64) -> Table {
-    let mut next = t;
-    if place < 513 {
-        next.terms[place] = term;
-    }
-    next
-}
-
-fn set_node(t: Table, node: usize, kind: u32, x: u32, y: u32) -> Table {
-    let mut next = t;
-    if node < 16 {
-        next.nodes[3 * node] = kind;
-        next.nodes[3 * node + 1] = x;
-        next.nodes[3 * node + 2] = y;
-    }
-    next
 }
 
 fn node(kind: u32, x: u32, y: u32) -> Node {
@@ -71,96 +36,79 @@ fn node(kind: u32, x: u32, y: u32) -> Node {
     }
 }
 
-fn draft(nodes: [u32; 48]) -> [Node; 16] {
-    let mut made = [Node::Time(0); 16];
-    let mut k: usize = 0;
-    while k < 16 {
-        made[k] = node(nodes[3 * k], nodes[3 * k + 1], nodes[3 * k + 2]);
-        k += 1;
-    }
-    made
-}
-
-fn found(terms: &[u64], places: usize, count: usize, term: u64) -> Lookup {
-    let p = least(places, terms.len());
-    find_term(&terms[..p], count, PRINCIPALS, term)
-}
-
-fn added(terms: &mut [u64], places: usize, count: usize, term: u64) -> Added {
-    let p = least(places, terms.len());
-    add_term(&mut terms[..p], count, PRINCIPALS, term)
-}
-
-fn stored(terms: &mut [u64], places: usize, count: usize, made: [Node; 16], root: usize) -> Stored {
-    let p = least(places, terms.len());
-    add_message(&mut terms[..p], count, PRINCIPALS, made, root)
-}
-
-fn find(t: Table, term: u64) -> Table {
-    let terms = t.terms;
-    print_lookup(found(&terms, t.places, t.count, term));
-    t
-}
-
-// The table after a call, with what has changed written.
-fn after(t: Table, terms: [u64; 513], count: usize) -> Table {
-    let before = t.terms;
-    print_changes(b", term ", &before, &terms);
-    let nodes = t.nodes;
-    Table {
-        terms,
-        count,
-        places: t.places,
-        nodes,
-    }
-}
-
-fn add(t: Table, term: u64) -> Table {
-    let mut terms = t.terms;
-    let answer = added(&mut terms, t.places, t.count, term);
-    print_added(answer);
-    match answer {
-        Added::Old(_) => after(t, terms, t.count),
-        Added::New(i) => after(t, terms, least(i, 512) + 1),
-        Added::Refused(_) => after(t, terms, t.count),
-    }
-}
-
-fn store(t: Table, root: usize) -> Table {
-    let mut terms = t.terms;
-    let nodes = t.nodes;
-    let answer = stored(&mut terms, t.places, t.count, draft(nodes), root);
-    print_stored(answer);
-    match answer {
-        Stored::At(_, count) => after(t, terms, count),
-        Stored::Refused(_) => after(t, terms, t.count),
-    }
-}
-
-fn called(t: Table, line: Line) -> Table {
-    let letter = line.letter;
-    let next = match letter {
-        b'F' => find(t, word(line.a, line.b, line.c)),
-        b'A' => add(t, word(line.a, line.b, line.c)),
-        _ => store(t, line.a as usize),
-    };
-    io::write_all(1, b"\n");
-    next
-}
-
-// Does what a line says.
-pub fn obey(t: Table, line: Line) -> Table {
-    let letter = line.letter;
-    match letter {
-        b'L' => {
-            let bytes = line.bytes;
-            print_text(bytes);
-            t
+impl Table {
+    // Nothing that stands in the places is a term.
+    pub fn new() -> Table {
+        Table {
+            terms: [77777777777777; 513],
+            count: 0,
+            places: MAX_TERMS,
+            draft: [Node::Principal(0); 16],
         }
-        b'N' => new(),
-        b'C' => set_counts(t, line.a as usize, line.b as usize),
-        b'T' => set_term(t, line.a as usize, word(line.b, line.c, line.d)),
-        b'D' => set_node(t, line.a as usize, line.b, line.c, line.d),
-        _ => called(t, line),
+    }
+
+    fn find(&self, term: u64) {
+        let terms = &self.terms[..self.places.min(513)];
+        print_found(find_term(terms, self.count, PRINCIPALS, term));
+    }
+
+    fn add(&mut self, term: u64) {
+        let before = self.terms;
+        let places = self.places.min(513);
+        let count = self.count;
+        let answer = add_term(&mut self.terms[..places], count, PRINCIPALS, term);
+        print_added(answer);
+        if let Ok(Added::New(i)) = answer {
+            self.count = i.min(MAX_TERMS) + 1;
+        }
+        print_changes(b", term ", &before, &self.terms);
+    }
+
+    fn store(&mut self, root: usize) {
+        let before = self.terms;
+        let places = self.places.min(513);
+        let count = self.count;
+        let draft = self.draft;
+        let answer = add_message(&mut self.terms[..places], count, PRINCIPALS, draft, root);
+        print_stored(answer);
+        if let Ok(stored) = answer {
+            self.count = stored.count;
+        }
+        print_changes(b", term ", &before, &self.terms);
+    }
+
+    // Makes a call, and ends the line of its answer.
+    fn call(&mut self, line: Line) {
+        let [a, b, c, ..] = line.numbers;
+        match line.letter {
+            b'F' => self.find(word(a, b, c)),
+            b'A' => self.add(word(a, b, c)),
+            _ => self.store(a as usize),
+        }
+        io::write_all(1, b"\n");
+    }
+
+    // Does what a line says.
+    pub fn obey(&mut self, line: Line) {
+        let [a, b, c, d, ..] = line.numbers;
+        match line.letter {
+            b'L' => line.print_text(),
+            b'N' => *self = Table::new(),
+            b'C' => {
+                self.count = a as usize;
+                self.places = b as usize;
+            }
+            b'T' => {
+                if let Some(place) = self.terms.get_mut(a as usize) {
+                    *place = word(b, c, d);
+                }
+            }
+            b'D' => {
+                if let Some(place) = self.draft.get_mut(a as usize) {
+                    *place = node(b, c, d);
+                }
+            }
+            _ => self.call(line),
+        }
     }
 }

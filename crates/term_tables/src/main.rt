@@ -17,21 +17,13 @@
 mod calls;
 mod show;
 
-use calls::{new, obey};
-
-// Lines at most.
-const LINES: usize = 65536;
+use calls::Table;
+use cases::LINES;
 
 fn main() {
-    let mut t = new();
-    let mut i: usize = 0;
-    while i < LINES {
-        let line = cases::next();
-        if line.letter == 0 {
-            break;
-        }
-        let after = obey(t, line);
-        t = after;
-        i += 1;
+    let mut table = Table::new();
+    for _ in 0..LINES {
+        let Some(line) = cases::next() else { break };
+        table.obey(line);
     }
 }

@@ -1,55 +1,43 @@
 // Writing answers.
-use cases::print_number;
-use lent_terms::Lookup;
+use cases::{print_number, print_refused};
 use messages::lent::Stored;
+use refusals::Refusal;
 use terms::table::Added;
-
-fn print_refusal(number: u8) {
-    print_number(b": refused ", number as u64);
-}
 
 fn print_term(number: usize) {
     print_number(b": term ", number as u64);
 }
 
-pub fn print_lookup(answer: Lookup) {
+pub fn print_found(answer: Result<Option<usize>, Refusal>) {
     match answer {
-        Lookup::At(i) => {
-            print_term(i);
-        }
-        Lookup::Nothing => {
+        Ok(Some(i)) => print_term(i),
+        Ok(None) => {
             io::write_all(1, b": nothing");
         }
-        Lookup::Refused(number) => {
-            print_refusal(number);
-        }
+        Err(refusal) => print_refused(u8::from(refusal)),
     }
 }
 
-pub fn print_added(answer: Added) {
+pub fn print_added(answer: Result<Added, Refusal>) {
     match answer {
-        Added::Old(i) => {
+        Ok(Added::Old(i)) => {
             print_term(i);
             io::write_all(1, b", present");
         }
-        Added::New(i) => {
+        Ok(Added::New(i)) => {
             print_term(i);
             io::write_all(1, b", new");
         }
-        Added::Refused(number) => {
-            print_refusal(number);
-        }
+        Err(refusal) => print_refused(u8::from(refusal)),
     }
 }
 
-pub fn print_stored(answer: Stored) {
+pub fn print_stored(answer: Result<Stored, Refusal>) {
     match answer {
-        Stored::At(number, count) => {
-            print_term(number as usize);
-            print_number(b" of ", count as u64);
+        Ok(stored) => {
+            print_term(stored.number as usize);
+            print_number(b" of ", stored.count as u64);
         }
-        Stored::Refused(number) => {
-            print_refusal(number);
-        }
+        Err(refusal) => print_refused(u8::from(refusal)),
     }
 }

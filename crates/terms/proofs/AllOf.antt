@@ -1,10 +1,14 @@
 -- What follows from the definitions of the same name in specs/.
 -- Assumes nothing.
-use Rattle.std.specs.Prelude.{◌≡◌, refl, Bool, true, ◌&&◌, ℕ, zero, suc, ◌<◌}
+use Rattle.std.specs.Prelude.{◌≡◌, refl, Bool, true, false, ◌&&◌, ℕ, zero, suc, ◌<◌, get_or, length}
 use Rattle.std.proofs.Math.Bool.{and-eq-true_iff}
 use Rattle.std.proofs.Math.Logic.{dite}
 use Rattle.std.proofs.Math.Decide.{ℕ_discrete}
-use Rattle.std.proofs.Common.{arith}
+use Rattle.std.proofs.Common.{arith, sym, ◌∙◌}
+use Rattle.std.proofs.lemmas.List.FromFn.{length-range_with_len, get_or-range_with_len}
+use Rattle.std.specs.Bool.{MatchBool}
+use Rattle.std.specs.List.{range_with_len, AllWithin, HoldsAt}
+use Rattle.terms.proofs.Choice.{is_false, no_true}
 use Rattle.terms.specs.AllOf.{each}
 
 pub record Five (a b c d e : Bool) : Type 0 where
@@ -36,3 +40,27 @@ pub true_each : (f : ℕ → Bool) (m : ℕ) → ((i : ℕ) → i < m → f i �
 unfolding each
 true_each f zero all = refl
 true_each f (suc m) all = rw (true_each f m (λ i h. all i (omega arith))) (all m (omega arith))
+
+-- ---- what `all` over the numbers below m finds
+
+below_by : (P : ℕ → Type 0) (m : ℕ) → AllWithin P (range_with_len 0 m) 0 (length (range_with_len 0 m)) → (i : ℕ) → i < m → P i
+below_by P m h i lt =
+    let g : get_or (range_with_len 0 m) i 0 ≡ i = omega (arith, get_or-range_with_len 0 m i 0 lt) in
+    let within : P (get_or (range_with_len 0 m) i 0) = h i 0 (omega arith) (rw (length-range_with_len 0 m) lt) in
+    rw g at within
+
+at_by : (P : ℕ → Type 0) (m : ℕ) → (k : ℕ) × (k < length (range_with_len 0 m)) × HoldsAt P (range_with_len 0 m) k → (i : ℕ) × (i < m) × P i
+at_by P m h =
+    let lt : h.0 < m = rw (length-range_with_len 0 m) at h.1 in
+    let g : get_or (range_with_len 0 m) h.0 0 ≡ h.0 = omega (arith, get_or-range_with_len 0 m h.0 0 lt) in
+    let there : P (get_or (range_with_len 0 m) h.0 0) = h.2 0 in
+    (h.0, lt, rw g at there)
+
+pub all_is_each : (f : ℕ → Bool) (m : ℕ) (r : Bool)
+    → MatchBool r (AllWithin (λ k. f k ≡ true) (range_with_len 0 m) 0 (length (range_with_len 0 m)))
+    ((k : ℕ) × (k < length (range_with_len 0 m)) × HoldsAt (λ k. f k ≡ false) (range_with_len 0 m) k)
+    → r ≡ each f m
+all_is_each f m true h = sym (true_each f m (below_by (λ k. f k ≡ true) m h))
+all_is_each f m false h =
+    let p = at_by (λ k. f k ≡ false) m h in
+    is_false (each f m) (λ e. no_true (sym p.2 ∙ each_true f m e p.0 p.1))

@@ -1,9 +1,7 @@
 -- What follows from the definitions of the same name in specs/.
 -- Assumes nothing.
-use Rattle.std.specs.Prelude.{◌≡◌, refl, true, List, ℕ, zero, suc, ◌<◌, get_or, length}
+use Rattle.std.specs.Prelude.{◌≡◌, refl, true, Option, Some, None, List, ℕ, zero, suc, ◌<◌, get_or, length}
 use Rattle.std.proofs.Common.{sym, ap, ap₂, ◌∙◌, arith, length-take-le, get_or-take}
-use Rattle.terms.specs.declared.table.Found.{Found}
-use Rattle.terms.specs.declared.table.Found.TheVariants.{At, Nothing}
 use Rattle.words.specs.declared.Term.{Term}
 use Rattle.words.specs.declared.Term.TheVariants.{Principal, Time, Nonce, LongTermKey, SessionKey, Pair, Encrypted, Unknown}
 use Rattle.terms.specs.Meaning.{key_of, message_of, message_at}
@@ -36,9 +34,9 @@ word_of_lem n ts xs at sub e f (Encrypted b k) h =
 word_of_lem n ts xs at sub e f Unknown h = absurd h
 
 -- a word has one place
-place_by_lem : {n : ℕ} {ts : List ℕ} {count : ℕ} → Terms n ts count → (i : ℕ) → i < count → (f : Found) → FoundIs ts count (get_or ts i 0) f → place_by f ≡ i
-place_by_lem v i h (At j) p = v.once j i p.0 h p.1
-place_by_lem v i h Nothing p = absurd (p i h refl)
+place_by_lem : {n : ℕ} {ts : List ℕ} {count : ℕ} → Terms n ts count → (i : ℕ) → i < count → (f : Option ℕ) → FoundIs ts count (get_or ts i 0) f → place_by f ≡ i
+place_by_lem v i h (Some j) p = v.once j i p.0 h p.1
+place_by_lem v i h None p = absurd (p i h refl)
 
 pub place_at : {n : ℕ} {xs : List ℕ} → Terms n xs (length xs) → (i : ℕ) → i < length xs → place xs (get_or xs i 0) ≡ i
 unfolding place

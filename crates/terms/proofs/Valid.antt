@@ -1,13 +1,11 @@
 -- What follows from the definitions of the same name in specs/.
 -- Assumes nothing.
-use Rattle.std.specs.Prelude.{◌≡◌, refl, true, ◌&&◌, List, ℕ, suc, ◌<◌, leb, eqb, length, get_or}
+use Rattle.std.specs.Prelude.{◌≡◌, refl, true, ◌&&◌, Option, Some, None, List, ℕ, suc, ◌<◌, leb, eqb, length, get_or}
 use Rattle.std.proofs.Common.{sym, ap, ◌∙◌, subst, arith, eqb-true, leb-true, eq-eqb, le-leb}
 use Rattle.std.proofs.Math.Bool.{and-eq-true_iff}
 use Rattle.std.proofs.Math.Logic.{dite}
 use Rattle.std.proofs.Math.Decide.{ℕ_discrete, dec_lt}
 use Rattle.words.specs.declared.Term.{Term}
-use Rattle.terms.specs.declared.table.Found.{Found}
-use Rattle.terms.specs.declared.table.Found.TheVariants.{At, Nothing}
 use Rattle.terms.proofs.Choice.{no_true}
 use Rattle.terms.specs.AllOf.{each}
 use Rattle.terms.proofs.AllOf.{each_true, true_each}
@@ -23,9 +21,9 @@ pub record Stands (n : ℕ) (ts : List ℕ) (i : ℕ) : Type 0 where
   pub fine : refusal_of n ts i (get_or ts i 0) ≡ 0
   pub new : Absent ts i (get_or ts i 0)
 
-nothing_is : (f : Found) → is_nothing f ≡ true → f ≡ Nothing
-nothing_is (At i) e = no_true e
-nothing_is Nothing e = refl
+nothing_is : (f : Option ℕ) → is_nothing f ≡ true → f ≡ None
+nothing_is (Some i) e = no_true e
+nothing_is None e = refl
 
 pub stands_is : (n : ℕ) (ts : List ℕ) (i : ℕ) → stands n ts i ≡ true → Stands n ts i
 unfolding stands

@@ -1,11 +1,11 @@
 -- Adding a term (document 01, "Terms": "No term stands twice: adding one that is present gives its number and changes
 -- nothing"; refusal 20: "the new terms do not all fit"): the answer, and the table after it, every place of it.
 -- Assumes nothing.
-use Rattle.std.specs.Prelude.{◌≡◌, cond, List, ℕ, suc, ◌<◌, ◌≤◌, eqb, get_or, set}
+use Rattle.std.specs.Prelude.{◌≡◌, Option, Some, None, Result, Ok, Err, cond, List, ℕ, suc, ◌<◌, ◌≤◌, eqb, get_or, set}
+use Rattle.refusals.specs.declared.Refusal.{Refusal}
+use Rattle.refusals.specs.Numbers as refusals
 use Rattle.terms.specs.declared.table.Added.{Added}
-use Rattle.terms.specs.declared.table.Added.TheVariants.{Old, New, Refused}
-use Rattle.terms.specs.declared.table.Found.{Found}
-use Rattle.terms.specs.declared.table.Found.TheVariants.{At, Nothing}
+use Rattle.terms.specs.declared.table.Added.TheVariants.{Old, New}
 use Rattle.terms.specs.Outcome.{TermAnswer, number, refused, TermOutcome, accept, refuse}
 use Rattle.terms.specs.Rules.{refusal_of, Agree}
 use Rattle.terms.specs.Table.{find_of}
@@ -14,15 +14,15 @@ use Rattle.terms.specs.Valid.{Terms, Valid}
 -- ---- definitions
 
 -- what the code's answer comes to: the term was there, is new, or was refused
-abbrev pub add_outcome : Added → (count : ℕ) → List ℕ → TermOutcome
-add_outcome (Old i) count ts = accept i count ts
-add_outcome (New i) count ts = accept i (suc count) ts
-add_outcome (Refused r) count ts = refuse r count ts
+abbrev pub add_outcome : Result Added Refusal → (count : ℕ) → List ℕ → TermOutcome
+add_outcome (Ok (Old i)) count ts = accept i count ts
+add_outcome (Ok (New i)) count ts = accept i (suc count) ts
+add_outcome (Err r) count ts = refuse (refusals.number r) count ts
 
 -- by what the search found: "adding one that is present gives its number and changes nothing"; a new one goes behind the others
-abbrev pub add_by : (ts : List ℕ) (count w : ℕ) → Found → TermOutcome
-add_by ts count w (At i) = accept i count ts
-add_by ts count w Nothing = cond (eqb count 512) (refuse 20 count ts) (accept count (suc count) (set ts count w))
+abbrev pub add_by : (ts : List ℕ) (count w : ℕ) → Option ℕ → TermOutcome
+add_by ts count w (Some i) = accept i count ts
+add_by ts count w None = cond (eqb count 512) (refuse 20 count ts) (accept count (suc count) (set ts count w))
 
 -- the refusals of the term rules come before 20
 unfoldable pub add_of : (n : ℕ) (ts : List ℕ) (count w : ℕ) → TermOutcome

@@ -1,9 +1,7 @@
 -- The number of a message in a list of terms. In a list that keeps the rules a message has one number: `number_at` takes
 -- a term's message back to the term, so two terms never stand for the same message.
 -- Assumes nothing.
-use Rattle.std.specs.Prelude.{List, ℕ, length, take}
-use Rattle.terms.specs.declared.table.Found.{Found}
-use Rattle.terms.specs.declared.table.Found.TheVariants.{At, Nothing}
+use Rattle.std.specs.Prelude.{Option, Some, None, List, ℕ, length, take}
 use Rattle.words.specs.declared.Term.TheVariants.{Principal, Time, Nonce, LongTermKey, SessionKey, Pair, Encrypted}
 use Rattle.terms.specs.Message.{Key, long_term, session, Message, principal, time, nonce, key, pair, encrypted}
 use Rattle.terms.specs.Table.{find_of}
@@ -11,9 +9,9 @@ use Rattle.words.specs.Word.{word_of}
 
 -- ---- definitions
 
-abbrev pub place_by : Found → ℕ
-place_by (At i) = i
-place_by Nothing = 0
+abbrev pub place_by : Option ℕ → ℕ
+place_by (Some i) = i
+place_by None = 0
 
 -- the number of a word among the terms xs
 unfoldable pub place : List ℕ → ℕ → ℕ

@@ -2,9 +2,7 @@
 -- full number of places, a count over its limit, a term that breaks the term rules, 5 or 6 or repeats").
 -- `Valid` says what it is; `holds` is the same as a test that computes, which the promises of the public calls cite.
 -- Assumes nothing.
-use Rattle.std.specs.Prelude.{◌≡◌, Bool, true, false, ◌&&◌, List, ℕ, ◌<◌, ◌≤◌, leb, eqb, length, get_or}
-use Rattle.terms.specs.declared.table.Found.{Found}
-use Rattle.terms.specs.declared.table.Found.TheVariants.{At, Nothing}
+use Rattle.std.specs.Prelude.{◌≡◌, Bool, true, false, ◌&&◌, Option, Some, None, List, ℕ, ◌<◌, ◌≤◌, leb, eqb, length, get_or}
 use Rattle.terms.specs.AllOf.{each}
 use Rattle.terms.specs.Rules.{refusal_of}
 use Rattle.terms.specs.Table.{find_of}
@@ -23,9 +21,9 @@ pub record Valid (n : ℕ) (ts : List ℕ) (count : ℕ) : Type 0 where
   pub terms : Terms n ts count
 
 -- term i keeps the rules and is none of the terms before it
-abbrev pub is_nothing : Found → Bool
-is_nothing (At i) = false
-is_nothing Nothing = true
+abbrev pub is_nothing : Option ℕ → Bool
+is_nothing (Some i) = false
+is_nothing None = true
 
 unfoldable pub stands : (n : ℕ) (ts : List ℕ) (i : ℕ) → Bool
 stands n ts i = eqb (refusal_of n ts i (get_or ts i 0)) 0 && is_nothing (find_of ts i (get_or ts i 0))

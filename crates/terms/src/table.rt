@@ -3,17 +3,11 @@
 // Terms in a table at most.
 pub const MAX_TERMS: usize = 512;
 
-#[derive(Clone, Copy)]
-pub enum Found {
-    At(usize),
-    Nothing,
-}
-
-#[derive(Clone, Copy)]
+// Where a term stands that was to be added.
+#[derive(Clone, Copy, Debug, PartialEq, Eq)]
 pub enum Added {
-    // It stands at this place already.
+    // It stood at this place already.
     Old(usize),
     // It was put at this place.
     New(usize),
-    Refused(u8),
 }

@@ -5,8 +5,7 @@
 use Rattle.std.specs.Prelude.{ℕ, ◌≡◌, ◌↔◌, true, List, [], ◌∷◌}
 use Rattle.terms.specs.Message.{Message}
 use Rattle.exchange.specs.declared.call.Call.{Call}
-use Rattle.exchange.specs.declared.call.Answer.{Answer}
-use Rattle.exchange.specs.Calls.{accepts, Sized}
+use Rattle.exchange.specs.Calls.{Answer, accepts, Sized}
 use Rattle.traces.specs.Logs.{OnWire}
 use Rattle.traces.specs.Realm.{Realm}
 use Rattle.traces.specs.RuleSets.{History, Reading, Entry, RuleSet, empty, read, Taken}

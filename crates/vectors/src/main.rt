@@ -5,16 +5,15 @@
 // on the next line, that of its listing.
 #![tactic(auto)]
 
-ghost use Rattle.std.specs.Prelude.{◌≡◌, ◌<◌, ◌≤◌, length};
+ghost use Rattle.std.specs.Prelude.{◌≡◌, ◌<◌, ◌≤◌, is_none, length};
 ghost use Rattle.io.specs.Counts.{IsPrefixLen};
-ghost use Rattle.comparison.specs.Compare.{is_same};
 
 use check::same;
-use comparison::{NEWLINE, Totals, Verdict, counted};
-use input::{Input, read_behind};
+use comparison::{NEWLINE, Totals};
+use input::{Input, Stop, read_behind};
 use io::{print_decimal, write_all};
 use judging::judge;
-use rewriting::back::{Rewritten, rewrite};
+use rewriting::back::rewrite;
 use std::fs::File;
 use std::rt::Files;
 use std::str::from_utf8;
@@ -29,16 +28,22 @@ const LIST_BYTES: usize = 65536;
 
 const STDOUT_FILENO: i32 = 1;
 
+// Of a file that cannot be opened.
+const UNREAD: Input = Input {
+    count: 0,
+    stop: Stop::Failed,
+};
+
 // What was read of a file. One that cannot be opened counts as one that cannot be read.
 fn read_named<R: Files>(rt: &R, path: &[u8], buffer: &mut [u8]) -> Input
     ensures { IsPrefixLen result.count buffer.new }
 {
     let Ok(name) = from_utf8(path) else {
-        return Input { count: 0, last: -1 };
+        return UNREAD;
     };
     match File::open(rt, name) {
         Ok(mut file) => read_behind(&mut file, buffer, 0),
-        Err(_) => Input { count: 0, last: -1 },
+        Err(_) => UNREAD,
     }
 }
 
@@ -48,27 +53,24 @@ fn read_file<R: Files>(rt: &R, path: &[u8], buffer: &mut [u8]) -> usize
     ensures { IsPrefixLen result buffer.new }
 {
     let input = read_named(rt, path, buffer);
-    if input.last != 0 {
+    if input.stop != Stop::End {
         write_all(STDOUT_FILENO, path);
         write_all(STDOUT_FILENO, b": cannot be read whole\n");
     }
     input.count
 }
 
-// Whether the verdict is that two texts are the same; a line if not.
-fn told(walk: &[u8], text: &[u8], verdict: Verdict) -> bool
-    ensures { result ≡ is_same verdict }
+// Whether two texts are the same, by the line where they differ first; a line of it if they are not.
+fn told(walk: &[u8], text: &[u8], difference: Option<usize>) -> bool
+    ensures { result ≡ is_none difference }
 {
-    match verdict {
-        Verdict::Same => true,
-        Verdict::Line(line) => {
-            write_all(STDOUT_FILENO, walk);
-            write_all(STDOUT_FILENO, text);
-            print_decimal(STDOUT_FILENO, line as u64);
-            write_all(STDOUT_FILENO, b" differs\n");
-            false
-        }
+    if let Some(line) = difference {
+        write_all(STDOUT_FILENO, walk);
+        write_all(STDOUT_FILENO, text);
+        print_decimal(STDOUT_FILENO, line as u64);
+        write_all(STDOUT_FILENO, b" differs\n");
     }
+    difference.is_none()
 }
 
 // Whether the listing of a walk file is the stored one.
@@ -78,31 +80,22 @@ fn agrees<R: Files>(rt: &R, walk: &[u8], file: &[u8], listing: &[u8]) -> bool {
     told(walk, b": line ", judge(file, &stored[..end]))
 }
 
-// What came of a walk: whether its listing agrees, whether its file was written back, and whether as it is.
+// What came of a walk: whether its listing agrees, and whether its file was written back as it is, if it was written back.
 #[derive(Clone, Copy)]
 struct Seen {
     agrees: bool,
-    written: bool,
-    same: bool,
+    same: Option<bool>,
 }
 
 fn look<R: Files>(rt: &R, walk: &[u8], listing: &[u8]) -> Seen {
     let mut file = [0u8; WALK_BYTES];
     let end = read_file(rt, walk, &mut file);
-    let agreed = agrees(rt, walk, &file[..end], listing);
-    let Rewritten::Compared(verdict) = rewrite(&file[..end]) else {
-        return Seen {
-            agrees: agreed,
-            written: false,
-            same: false,
-        };
+    let agrees = agrees(rt, walk, &file[..end], listing);
+    let same = match rewrite(&file[..end]) {
+        Ok(difference) => Some(told(walk, b": written back, line ", difference)),
+        Err(_) => None,
     };
-    let same = told(walk, b": written back, line ", verdict);
-    Seen {
-        agrees: agreed,
-        written: true,
-        same,
-    }
+    Seen { agrees, same }
 }
 
 // Where the line after the one at `at` begins.
@@ -140,11 +133,9 @@ fn run<R: Files>(rt: &R, list: &[u8], first: usize) -> Results {
         }
         let next = line_after(list, middle);
         let seen = look(rt, &list[at..middle - 1], &list[middle..next - 1]);
-        let listed = counted(listings, seen.agrees);
-        listings = listed;
-        if seen.written {
-            let written = counted(writings, seen.same);
-            writings = written;
+        listings = listings.counted(seen.agrees);
+        if let Some(same) = seen.same {
+            writings = writings.counted(same);
         }
         at = next;
     }

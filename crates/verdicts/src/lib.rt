@@ -4,20 +4,18 @@
 
 ghost use Rattle.std.specs.Prelude.{◌≡◌};
 ghost use Rattle.exchange.specs.declared.run.Stage.TheVariants.{Opened};
-ghost use Rattle.decisions.specs.declared.Verdict.TheVariants.{Takes as Taking};
 ghost use Rattle.decisions.specs.Effects.{opening, issuing, authenticating, accepting, finishing, advancing, still};
 
-use decisions::{Change, Effect, Keeping, Sends, Verdict};
-use exchange::call::Names;
+use decisions::{Change, Effect, Keeping, Sends};
 use exchange::form::Form;
 use exchange::run::{Role, Row, Stage};
 use replay::entry::Entry;
 
 // Steps 1 and 2: run r is opened, and has taken nothing yet.
-pub fn opened(clock: u32, role: Role, r: u8, a: u8, b: u8, sends: Sends) -> Verdict
-    ensures { result ≡ Taking (opening clock role Opened r a b 0 0 sends) }
+pub fn opened(clock: u32, role: Role, r: u8, a: u8, b: u8, sends: Sends) -> Effect
+    ensures { result ≡ opening clock role Opened r a b 0 0 sends }
 {
-    Verdict::Takes(Effect {
+    Effect {
         change: Change::Open(Row {
             role,
             stage: Stage::Opened,
@@ -30,15 +28,15 @@ pub fn opened(clock: u32, role: Role, r: u8, a: u8, b: u8, sends: Sends) -> Verd
         keeping: Keeping::Same,
         sends,
         clock,
-        names: Names::Run(r),
-    })
+        names: Some(r),
+    }
 }
 
 // Step 3: server run r is opened, with the session key of its number.
-pub fn issued(clock: u32, form: Form, r: u8, a: u8, b: u8, n: u16) -> Verdict
-    ensures { result ≡ Taking (issuing clock form r a b n) }
+pub fn issued(clock: u32, form: Form, r: u8, a: u8, b: u8, n: u16) -> Effect
+    ensures { result ≡ issuing clock form r a b n }
 {
-    Verdict::Takes(Effect {
+    Effect {
         change: Change::Open(Row {
             role: Role::Server,
             stage: Stage::Done,
@@ -58,35 +56,34 @@ pub fn issued(clock: u32, form: Form, r: u8, a: u8, b: u8, n: u16) -> Verdict
             n,
         },
         clock,
-        names: Names::Run(r),
-    })
+        names: Some(r),
+    }
 }
 
 // Run r goes on to this row.
-fn advanced(clock: u32, r: u8, row: Row, keeping: Keeping, sends: Sends) -> Verdict
-    ensures { result ≡ Taking (advancing clock row.role row.stage r row.a row.b row.k row.ts row.ta keeping sends) }
+fn advanced(clock: u32, r: u8, row: Row, keeping: Keeping, sends: Sends) -> Effect
+    ensures { result ≡ advancing clock row.role row.stage r row.a row.b row.k row.ts row.ta keeping sends }
 {
-    Verdict::Takes(Effect {
+    Effect {
         change: Change::Set { r, row },
         keeping,
         sends,
         clock,
-        names: Names::Run(r),
-    })
+        names: Some(r),
+    }
 }
 
 // Step 4: run r has taken K and Ts, and sends its authenticator, with term x where the form passes one on.
-pub fn authenticated(clock: u32, form: Form, r: u8, own: Row, k: u8, ts: u32, x: u16) -> Verdict
-    ensures { result ≡ Taking (authenticating clock form r own.a own.b k ts x) }
+pub fn authenticated(clock: u32, form: Form, r: u8, own: Row, k: u8, ts: u32, x: u16) -> Effect
+    ensures { result ≡ authenticating clock form r own.a own.b k ts x }
 {
     let row = Row {
         role: Role::Initiator,
         stage: Stage::Authenticated,
-        a: own.a,
-        b: own.b,
         k,
         ts,
         ta: clock,
+        ..own
     };
     let sends = Sends::Presented {
         form,
@@ -99,17 +96,16 @@ pub fn authenticated(clock: u32, form: Form, r: u8, own: Row, k: u8, ts: u32, x:
 }
 
 // Step 5: run r has taken K, Ts and Ta, which are remembered, and sends its confirmation.
-pub fn accepted(clock: u32, r: u8, own: Row, k: u8, ts: u32, ta: u32) -> Verdict
-    ensures { result ≡ Taking (accepting clock r own.a own.b k ts ta) }
+pub fn accepted(clock: u32, r: u8, own: Row, k: u8, ts: u32, ta: u32) -> Effect
+    ensures { result ≡ accepting clock r own.a own.b k ts ta }
 {
     let row = Row {
         role: Role::Responder,
         stage: Stage::Done,
-        a: own.a,
-        b: own.b,
         k,
         ts,
         ta,
+        ..own
     };
     let entry = Entry {
         b: own.b as u16,
@@ -121,30 +117,26 @@ pub fn accepted(clock: u32, r: u8, own: Row, k: u8, ts: u32, ta: u32) -> Verdict
 }
 
 // Step 6: run r is done, with what it has.
-pub fn finished(clock: u32, r: u8, own: Row) -> Verdict
-    ensures { result ≡ Taking (finishing clock r own.a own.b own.k own.ts own.ta) }
+pub fn finished(clock: u32, r: u8, own: Row) -> Effect
+    ensures { result ≡ finishing clock r own.a own.b own.k own.ts own.ta }
 {
     let row = Row {
         role: Role::Initiator,
         stage: Stage::Done,
-        a: own.a,
-        b: own.b,
-        k: own.k,
-        ts: own.ts,
-        ta: own.ta,
+        ..own
     };
     advanced(clock, r, row, Keeping::Same, Sends::Nothing)
 }
 
 // The others: no run changes.
-pub fn rest(clock: u32, keeping: Keeping, sends: Sends, names: Names) -> Verdict
-    ensures { result ≡ Taking (still clock keeping sends names) }
+pub fn rest(clock: u32, keeping: Keeping, sends: Sends, names: Option<u8>) -> Effect
+    ensures { result ≡ still clock keeping sends names }
 {
-    Verdict::Takes(Effect {
+    Effect {
         change: Change::Nothing,
         keeping,
         sends,
         clock,
         names,
-    })
+    }
 }

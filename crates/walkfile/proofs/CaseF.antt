@@ -31,7 +31,7 @@ use Rattle.effects.specs.Call.{stepped, called}
 use Rattle.records.specs.Calls.{calls_within, calls_of}
 use Rattle.records.specs.Fields.{begins}
 use Rattle.exchange.specs.Forms.{forms}
-use Rattle.exchange.specs.Formats.{formats, row_of}
+use Rattle.exchange.specs.Formats.{formats}
 use Rattle.records.specs.Headers.{header_width, header_of}
 use Rattle.records.specs.Records.{front_of}
 use Rattle.fields.specs.Fields.{ascii, decimal_by, decimal, mark_text, names_text, answer_text}
@@ -58,11 +58,11 @@ file = first7 ++ st 6 0 0 0 18 0 ++ st 2 0 1 2 0 0 ++ st 5 3 0 0 17 0
 
 pub printed : listing_of file
     ≡ ascii "0 HD ok\n1 ST ok 0 +5\n2 ST ok 1 +11\n3 ST ok 0 +1\n4 ST ok 2 +0\n5 TM 17 new\n6 ST ok 2 +1\n7 ST ok 0 +0\n8 ST ok 3 +0\n9 ST refused 18\nend runs 4 wire 5 cache 1 clock 0\n"
-unfolding listing_of header_of formats row_of header_width begins opening_of header_refusal header_fits walk_lines new_tables calls_of calls_within front_of call_lines last_lines tables_line header_line call_line mark_text names_text answer_text end_line decimal decimal_by called stepped decision decided step_of opens_run issues authenticates takes finishes ticks queries admission input_refusal uses_table in_range need_table run_at set_run derivable_of composes_of saturate_of descend layers sweep_of visit_of marked mark with_mark size sum is_set bit set_bit term_of word_of message_at refusal_of find_of add_of place word_in with_word entered send_of applied present stays kept written request_in forms grant_in ticket_in authenticator_in delivery_in confirmation_in of_kind layer ◌▸◌
+unfolding listing_of header_of formats header_width begins opening_of header_refusal header_fits walk_lines new_tables calls_of calls_within front_of call_lines last_lines tables_line header_line call_line mark_text names_text answer_text end_line decimal decimal_by called stepped decision decided step_of opens_run issues authenticates takes finishes ticks queries admission input_refusal uses_table in_range need_table run_at set_run derivable_of composes_of saturate_of descend layers sweep_of visit_of marked mark with_mark size sum is_set bit set_bit term_of word_of message_at refusal_of find_of add_of place word_in with_word entered send_of applied present stays kept written request_in forms grant_in ticket_in authenticator_in delivery_in confirmation_in of_kind layer ◌▸◌
 printed = refl
 
 -- the same file cut off within its record 7: "After 1, 2 or 3 reading ends"
 pub cut_short : listing_of (first7 ++ ascii "ST")
     ≡ ascii "0 HD ok\n1 ST ok 0 +5\n2 ST ok 1 +11\n3 ST ok 0 +1\n4 ST ok 2 +0\n5 TM 17 new\n6 ST ok 2 +1\n7 file refused 3\nend runs 3 wire 5 cache 1 clock 0\n"
-unfolding listing_of header_of formats row_of header_width begins opening_of header_refusal header_fits walk_lines new_tables calls_of calls_within front_of call_lines last_lines tables_line header_line call_line mark_text names_text answer_text file_line end_line decimal decimal_by called stepped decision decided step_of opens_run issues authenticates takes finishes ticks queries admission input_refusal uses_table in_range need_table run_at set_run derivable_of composes_of saturate_of descend layers sweep_of visit_of marked mark with_mark size sum is_set bit set_bit term_of word_of message_at refusal_of find_of add_of place word_in with_word entered send_of applied present stays kept written request_in forms grant_in ticket_in authenticator_in delivery_in confirmation_in of_kind layer ◌▸◌
+unfolding listing_of header_of formats header_width begins opening_of header_refusal header_fits walk_lines new_tables calls_of calls_within front_of call_lines last_lines tables_line header_line call_line mark_text names_text answer_text file_line end_line decimal decimal_by called stepped decision decided step_of opens_run issues authenticates takes finishes ticks queries admission input_refusal uses_table in_range need_table run_at set_run derivable_of composes_of saturate_of descend layers sweep_of visit_of marked mark with_mark size sum is_set bit set_bit term_of word_of message_at refusal_of find_of add_of place word_in with_word entered send_of applied present stays kept written request_in forms grant_in ticket_in authenticator_in delivery_in confirmation_in of_kind layer ◌▸◌
 cut_short = refl

@@ -1,14 +1,12 @@
 -- The tables of a realm that was just opened hold together: none of their places is in use.
 -- Assumes nothing.
-use Rattle.std.specs.Prelude.{ℕ, ◌≡◌, refl, List}
+use Rattle.std.specs.Prelude.{Ok, ℕ, ◌≡◌, refl, List}
 use Rattle.std.proofs.lemmas.List.{length-replicate}
 use Rattle.exchange.specs.declared.header.Header.{Header}
-use Rattle.records.specs.declared.header.Heading.TheVariants as header
 use Rattle.records.specs.Fields.{Bytes}
 use Rattle.records.specs.Headers.{header_of}
 use Rattle.records.proofs.Headers.{header_fields}
 use Rattle.replay.specs.Cache.{empty}
-use Rattle.realm.specs.declared.header.Opening.TheVariants as opening
 use Rattle.realm.specs.declared.header.Realm.{Realm}
 use Rattle.realm.specs.New.{Lends}
 use Rattle.realm.proofs.New.{new_together}
@@ -30,8 +28,8 @@ lends h =
       cache = length-replicate 16 empty;
     }
 
-pub walkable : (bytes : List ℕ) (g : Header) (h : Realm) → Bytes bytes → header_of bytes ≡ header.Read g
-    → opening_of g ≡ opening.Open h → Walkable h g.mark bytes
+pub walkable : (bytes : List ℕ) (g : Header) (h : Realm) → Bytes bytes → header_of bytes ≡ Ok g
+    → opening_of g ≡ Ok h → Walkable h g.mark bytes
 walkable bytes g h small e o =
     let f = header_fields bytes g e in
     let s = f.sized small in
@@ -43,8 +41,8 @@ walkable bytes g h small e o =
     }
 
 -- its tables are those of a new realm, as the engine asks for one
-pub opened_new : (bytes : List ℕ) (g : Header) (h : Realm) → Bytes bytes → header_of bytes ≡ header.Read g
-    → opening_of g ≡ opening.Open h → New (headerOfRealm h) (new_tables h)
+pub opened_new : (bytes : List ℕ) (g : Header) (h : Realm) → Bytes bytes → header_of bytes ≡ Ok g
+    → opening_of g ≡ Ok h → New (headerOfRealm h) (new_tables h)
 opened_new bytes g h small e o =
     let s = (header_fields bytes g e).sized small in
     engine.opened_new g h (new_tables h) s.2 s.3 o (lends h)

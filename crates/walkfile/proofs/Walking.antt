@@ -1,6 +1,6 @@
 -- What follows from the definitions of the same name in specs/.
 -- Assumes nothing.
-use Rattle.std.specs.Prelude.{◌≡◌, refl, length, take, drop}
+use Rattle.std.specs.Prelude.{Option, Some, None, Result, Ok, Err, ◌≡◌, refl, length, take, drop}
 use Rattle.std.proofs.Common.{sym, ◌∙◌, arith, add-zero, take-append-drop}
 use Rattle.std.proofs.Math.Path.{ap}
 use mathlib.Core.List.{List, [], ◌++◌, append_assoc, append-nil}
@@ -9,7 +9,6 @@ use Rattle.std.proofs.Math.Numerals.{add-one}
 use Rattle.exchange.specs.declared.call.Call.{Call}
 use Rattle.exchange.specs.Calls.{Sized}
 use Rattle.records.specs.declared.record.Record.{Record}
-use Rattle.records.specs.declared.record.Record.TheVariants as answer
 use Rattle.records.specs.Headers.{header_width, max_file}
 use Rattle.records.specs.Records.{record_at}
 use Rattle.records.specs.Calls.{broken, Calls, calls_of}
@@ -72,7 +71,7 @@ starts bytes before h mark first e w few room =
 module _ (bytes before : List ℕ) (first : ℕ) (all after : List ℕ) (t : Tables) (at number end : ℕ) (s : BeforeRecord bytes before first all after t at number end) where
   -- ---- a call
 
-  pub goes_on : (c : Call) (next : ℕ) (o : Outcome) (after' : List ℕ) (end' : ℕ) → record_at bytes at ≡ answer.Call c next → Sized c
+  pub goes_on : (c : Call) (next : ℕ) (o : Outcome) (after' : List ℕ) (end' : ℕ) → record_at bytes at ≡ Ok (Some (record { call = c; next = next })) → Sized c
       → o ≡ called t c → Wrote after end (call_line number c o.answer) after' end' → end' ≤ end + 24
       → BeforeRecord bytes before first all after' o.tables next (number + 1) end'
   unfolding call_lines
@@ -94,7 +93,7 @@ module _ (bytes before : List ℕ) (first : ℕ) (all after : List ℕ) (t : Tab
       }
 
   -- the place rises, and stays in the file
-  pub advances : (c : Call) (next : ℕ) → record_at bytes at ≡ answer.Call c next → length bytes - next < length bytes - at
+  pub advances : (c : Call) (next : ℕ) → record_at bytes at ≡ Ok (Some (record { call = c; next = next })) → length bytes - next < length bytes - at
   advances c next e = let taken = step_on bytes at c next e in omega (arith, taken.later, taken.inside)
 
   -- ---- the end
@@ -114,17 +113,16 @@ module _ (bytes before : List ℕ) (first : ℕ) (all after : List ℕ) (t : Tab
         rest = ap (λ (cs : Calls). s.lines ++ lines_of number t cs) (sym (none_left bytes at h)) ∙ s.rest;
       }
 
-  broken_here : (r : Record) → record_at bytes at ≡ r → ((c : Call) (next : ℕ) → r ≡ answer.Call c next → ⊥) → at < length bytes
+  broken_here : (r : Result (Option Record) ℕ) → record_at bytes at ≡ r → ((q : Record) → record_at bytes at ≡ Ok (Some q) → ⊥) → at < length bytes
       → calls_of (drop at bytes) ≡ record { calls = []; ending = broken }
-  broken_here (answer.Call c next) e none h = absurd (none c next refl)
-  broken_here answer.End e none h = absurd (omega (arith, (ends bytes at).0 e))
-  broken_here (answer.Refused n) e none h = (breaks bytes at n e).last
+  broken_here (Ok (Some q)) e none h = absurd (none q e)
+  broken_here (Ok None) e none h = absurd (omega (arith, (ends bytes at).0 e))
+  broken_here (Err n) e none h = (breaks bytes at n e).last
 
-  pub ends_broken : length bytes ≤ max_file → at < length bytes → (r : Record) → r ≡ record_at bytes at
-      → ((c : Call) (next : ℕ) → r ≡ answer.Call c next → ⊥)
+  pub ends_broken : length bytes ≤ max_file → at < length bytes → ((q : Record) → record_at bytes at ≡ Ok (Some q) → ⊥)
       → (mid : List ℕ) (next : ℕ) → Wrote after end (file_line number 3) mid next → next ≤ end + 24 → BeforeLast before first all mid t next
   unfolding last_lines call_lines
-  ends_broken most h r is none mid next w short =
+  ends_broken most h none mid next w short =
       record {
         short = omega (arith, s.short, few most, short);
         room = s.room;
@@ -132,7 +130,7 @@ module _ (bytes before : List ℕ) (first : ℕ) (all after : List ℕ) (t : Tab
         wrote = joined s.room s.wrote w;
         rest =
             append_assoc s.lines (file_line number 3) (tables_line t)
-            ∙ ap (λ (cs : Calls). s.lines ++ lines_of number t cs) (sym (broken_here r (sym is) none h))
+            ∙ ap (λ (cs : Calls). s.lines ++ lines_of number t cs) (sym (broken_here (record_at bytes at) refl none h))
             ∙ s.rest;
       }
 

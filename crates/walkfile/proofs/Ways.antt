@@ -1,30 +1,28 @@
 -- The ways out of listing a file, over plain variables: the code's proofs cite them.
 -- Assumes nothing.
-use Rattle.std.specs.Prelude.{◌≡◌, List, ℕ, ◌<◌, ◌≤◌, length}
+use Rattle.std.specs.Prelude.{Ok, Err, ◌≡◌, List, ℕ, ◌<◌, ◌≤◌, length}
 use Rattle.std.proofs.Math.Path.{sym, ap}
 use Rattle.std.proofs.Common.{◌∙◌, lt-ltb, le-ltb}
 use Rattle.std.proofs.Math.Nat.{zero-add}
 use Rattle.exchange.specs.declared.header.Header.{Header}
-use Rattle.records.specs.declared.header.Heading.TheVariants as header
 use Rattle.records.specs.Headers.{header_of}
 use Rattle.lines.specs.Lines.{file_line}
 use Rattle.fields.specs.Placed.{Wrote}
-use Rattle.realm.specs.declared.header.Opening.TheVariants as opening
 use Rattle.realm.specs.declared.header.Realm.{Realm}
 use Rattle.realm.specs.Opening.{opening_of}
 use Rattle.walkfile.specs.Listing.{walk_lines, opening_lines, header_lines, listing_of, listing_bytes, written, no_room, listed}
 
 module _ (bytes : List ℕ) where
-  pub header_refused : (refusal : ℕ) → header_of bytes ≡ header.Refused refusal → file_line 0 refusal ≡ listing_of bytes
+  pub header_refused : (refusal : ℕ) → header_of bytes ≡ Err refusal → file_line 0 refusal ≡ listing_of bytes
   unfolding listing_of
   header_refused refusal e = sym (ap (header_lines bytes) e)
 
-  module _ (g : Header) (e : header_of bytes ≡ header.Read g) where
-    pub opening_refused : (refusal : ℕ) → opening_of g ≡ opening.Refused refusal → file_line 0 refusal ≡ listing_of bytes
+  module _ (g : Header) (e : header_of bytes ≡ Ok g) where
+    pub opening_refused : (refusal : ℕ) → opening_of g ≡ Err refusal → file_line 0 refusal ≡ listing_of bytes
     unfolding listing_of
     opening_refused refusal o = sym (ap (header_lines bytes) e ∙ ap (opening_lines g.mark bytes) o)
 
-    pub opened : (h : Realm) → opening_of g ≡ opening.Open h → walk_lines h g.mark bytes ≡ listing_of bytes
+    pub opened : (h : Realm) → opening_of g ≡ Ok h → walk_lines h g.mark bytes ≡ listing_of bytes
     unfolding listing_of
     opened h o = sym (ap (header_lines bytes) e ∙ ap (opening_lines g.mark bytes) o)
 

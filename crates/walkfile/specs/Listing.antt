@@ -1,24 +1,19 @@
 -- The listing of a file (document 01, "File and listing"): what stands in the file goes through the engine's own definitions
 -- and comes out as lines.
 -- Assumes nothing.
-use Rattle.std.specs.Prelude.{cond, List, [], ◌∷◌, ◌++◌, ℕ, suc, ltb, length, drop, replicate}
+use Rattle.std.specs.Prelude.{cond, Option, Some, None, Result, Ok, Err, List, [], ◌∷◌, ◌++◌, ℕ, suc, ltb, length, drop, replicate}
 use Rattle.marks.specs.Marks.{size}
 use Rattle.exchange.specs.declared.call.Call.{Call}
-use Rattle.records.specs.declared.header.Heading.{Heading}
-use Rattle.records.specs.declared.header.Heading.TheVariants as header
+use Rattle.exchange.specs.declared.header.Header.{Header}
 use Rattle.records.specs.Headers.{header_width, header_of}
 use Rattle.records.specs.Calls.{Ending, ended, broken, Calls, calls_of}
 use Rattle.lines.specs.Lines.{header_line, call_line, file_line, end_line}
 use Rattle.fields.specs.Placed.{placed}
 use Rattle.replay.specs.Cache.{empty}
-use Rattle.realm.specs.declared.header.Opening.{Opening}
-use Rattle.realm.specs.declared.header.Opening.TheVariants as opening
 use Rattle.realm.specs.declared.header.Realm.{Realm}
 use Rattle.realm.specs.Opening.{opening_of}
 use Rattle.realm.specs.Tables.{Tables, tables}
 use Rattle.effects.specs.Call.{called}
-use Rattle.walkfile.specs.declared.Listing.{Listing}
-use Rattle.walkfile.specs.declared.Listing.TheVariants.{Written, NoRoom}
 
 -- ---- the tables
 
@@ -51,14 +46,14 @@ unfoldable pub walk_lines : Realm → (mark : ℕ) → List ℕ → List ℕ
 walk_lines h mark bytes = header_line mark ++ lines_of 1 (new_tables h) (calls_of (drop (header_width mark) bytes))
 
 -- "2": "n outside 3 to 16, a flag on party 0 or at n and above, or a life of 0", with the mark's limit in place of 16
-abbrev pub opening_lines : (mark : ℕ) → List ℕ → Opening → List ℕ
-opening_lines mark bytes (opening.Refused refusal) = file_line 0 refusal
-opening_lines mark bytes (opening.Open h) = walk_lines h mark bytes
+abbrev pub opening_lines : (mark : ℕ) → List ℕ → Result Realm ℕ → List ℕ
+opening_lines mark bytes (Err refusal) = file_line 0 refusal
+opening_lines mark bytes (Ok h) = walk_lines h mark bytes
 
 -- "1": "file over 65,536 bytes, or without a whole HD record first", or that of another mark
-abbrev pub header_lines : List ℕ → Heading → List ℕ
-header_lines bytes (header.Refused refusal) = file_line 0 refusal
-header_lines bytes (header.Read g) = opening_lines g.mark bytes (opening_of g)
+abbrev pub header_lines : List ℕ → Result Header ℕ → List ℕ
+header_lines bytes (Err refusal) = file_line 0 refusal
+header_lines bytes (Ok g) = opening_lines g.mark bytes (opening_of g)
 
 unfoldable pub listing_of : List ℕ → List ℕ
 listing_of bytes = header_lines bytes (header_of bytes)
@@ -75,9 +70,9 @@ pub data ListOutcome : Type 0 where
   no_room : (buffer : List ℕ) → ListOutcome
 
 -- what the code gave back, beside the buffer
-abbrev pub list_outcome : Listing → List ℕ → ListOutcome
-list_outcome (Written count) buffer = written count buffer
-list_outcome NoRoom buffer = no_room buffer
+abbrev pub list_outcome : Option ℕ → List ℕ → ListOutcome
+list_outcome (Some count) buffer = written count buffer
+list_outcome None buffer = no_room buffer
 
 -- the listing stands at the start of a buffer that has room, and no other place is changed
 unfoldable pub listed : List ℕ → List ℕ → ListOutcome

@@ -10,22 +10,16 @@ use engine::call::call;
 use exchange::call::Call;
 use lines::{write_call_line, write_end_line, write_file_line, write_header_line};
 use marks::members;
-use realm::header::{Opening, Realm, open_realm};
-use records::header::{Heading, header_width, read_header};
-use records::record::{REFUSE_RECORD, Record, read_record};
+use realm::header::{Realm, open_realm};
+use records::header::{header_width, read_header};
+use records::record::read_record;
+use refusals::Refusal;
 use replay::entry::EMPTY;
-use synthesis::knowledge::KNOWN_WORDS;
+use synthesis::knowledge::Knowledge;
 
 // Room for any listing. A call takes at least 7 bytes of the file, so a file of 65,536 bytes has at most 9,360 of them.
 // With the header's line and that of refusal 3 these are 9,362 lines of at most 24 bytes, and a last one of at most 70.
 pub const LISTING_BYTES: usize = 224758;
-
-// How many bytes of the buffer are the listing's; or the buffer is shorter than LISTING_BYTES.
-#[derive(Clone, Copy)]
-pub enum Listing {
-    Written(usize),
-    NoRoom,
-}
 
 // The listing of a file whose header, of this mark, opened a realm.
 fn walk_records(h: Realm, mark: u16, file: &[u8], out: &mut [u8]) -> usize
@@ -35,34 +29,30 @@ fn walk_records(h: Realm, mark: u16, file: &[u8], out: &mut [u8]) -> usize
     let mut terms = [0u64; 512];
     let mut runs = [0u32; 448];
     let mut wire = [0u64; 8];
-    let mut known = [0u64; KNOWN_WORDS];
+    let mut known = Knowledge::new();
     let mut cache = [EMPTY; 16];
     let mut realm = h;
     let mut at = header_width(mark);
     let mut number: u32 = 1;
     let mut end = write_header_line(out, 0, mark);
-    loop {
-        let Record::Call {
-            call: next_call,
-            next,
-        } = read_record(file, at)
-        else {
-            break;
-        };
+    while let Ok(Some(record)) = read_record(file, at) {
         let after = call(
-            realm, &mut terms, &mut runs, &mut wire, &mut known, cache, next_call,
+            realm,
+            &mut terms,
+            &mut runs,
+            &mut wire,
+            &mut known,
+            cache,
+            record.call,
         );
-        let answer = after.answer;
-        end = write_call_line(out, end, number, next_call, answer);
-        let next_realm = after.realm;
-        let next_cache = after.cache;
-        realm = next_realm;
-        cache = next_cache;
-        at = next;
+        end = write_call_line(out, end, number, record.call, after.answer);
+        realm = after.realm;
+        cache = after.cache;
+        at = record.next;
         number += 1;
     }
     if at < file.len() {
-        end = write_file_line(out, end, number, REFUSE_RECORD);
+        end = write_file_line(out, end, number, u8::from(Refusal::Record));
     }
     write_end_line(
         out,
@@ -74,18 +64,19 @@ fn walk_records(h: Realm, mark: u16, file: &[u8], out: &mut [u8]) -> usize
     )
 }
 
-// The listing of a file, whatever its bytes.
-pub fn list(file: &[u8], out: &mut [u8]) -> Listing
+// The listing of a file, whatever its bytes: how many bytes of the buffer it takes; none where the buffer is shorter than
+// LISTING_BYTES.
+pub fn list(file: &[u8], out: &mut [u8]) -> Option<usize>
     ensures { list_outcome result out.new ≡ listed file.now out.old }
 {
     if out.len() < LISTING_BYTES {
-        return Listing::NoRoom;
+        return None;
     }
     match read_header(file) {
-        Heading::Refused(refusal) => Listing::Written(write_file_line(out, 0, 0, refusal)),
-        Heading::Read(header) => match open_realm(header) {
-            Opening::Refused(refusal) => Listing::Written(write_file_line(out, 0, 0, refusal)),
-            Opening::Open(h) => Listing::Written(walk_records(h, header.mark, file, out)),
+        Err(refusal) => Some(write_file_line(out, 0, 0, u8::from(refusal))),
+        Ok(header) => match open_realm(header) {
+            Err(refusal) => Some(write_file_line(out, 0, 0, u8::from(refusal))),
+            Ok(h) => Some(walk_records(h, header.mark, file, out)),
         },
     }
 }

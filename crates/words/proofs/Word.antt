@@ -1,10 +1,15 @@
 -- What follows from the definitions of the same name in specs/.
 -- Assumes nothing.
-use Rattle.std.specs.Prelude.{◌≡◌, refl, ℕ, zero, suc, ◌+◌, ◌*◌, ◌/◌, ◌%◌, ◌^◌, ◌<◌}
-use Rattle.std.proofs.Common.{ap, ◌∙◌, arith}
+use Rattle.std.specs.Prelude.{◌≡◌, refl, true, false, Result, Ok, Err, ℕ, zero, suc, ◌+◌, ◌*◌, ◌/◌, ◌%◌, ◌^◌, ◌<◌, ◌≤◌}
+use Rattle.std.specs.Result.{is_err}
+use Rattle.std.proofs.Common.{sym, ap, ◌∙◌, arith}
+use Rattle.std.proofs.lemmas.Bool.{false≢true}
+use Rattle.words.specs.declared.Kind.{Kind}
+use Rattle.words.specs.declared.Kind.TheVariants as kinds
+use Rattle.words.specs.declared.UnknownKind.{UnknownKind}
 use Rattle.words.specs.declared.Term.{Term}
 use Rattle.words.specs.declared.Term.TheVariants.{Principal, Time, Nonce, LongTermKey, SessionKey, Pair, Encrypted, Unknown}
-use Rattle.words.specs.Word.{kind_of, left_of, right_of, term_by, term_of, word_of}
+use Rattle.words.specs.Word.{kind_of, left_of, right_of, term_by, term_of, word_of, number_of, KindRead}
 
 -- the fields of a term fit a word
 abbrev pub Packs : Term → Type 0
@@ -20,15 +25,37 @@ Packs Unknown = ⊥
 -- ---- laws
 
 -- a kind that is none of the seven
-pub term_unknown : (k l r : ℕ) → (k ≡ 0 → ⊥) → (k ≡ 1 → ⊥) → (k ≡ 2 → ⊥) → (k ≡ 3 → ⊥) → (k ≡ 4 → ⊥) → (k ≡ 5 → ⊥) → (k ≡ 6 → ⊥) → term_by k l r ≡ Unknown
-term_unknown zero l r a b c d e f g = absurd (a refl)
-term_unknown (suc zero) l r a b c d e f g = absurd (b refl)
-term_unknown (suc (suc zero)) l r a b c d e f g = absurd (c refl)
-term_unknown (suc (suc (suc zero))) l r a b c d e f g = absurd (d refl)
-term_unknown (suc (suc (suc (suc zero)))) l r a b c d e f g = absurd (e refl)
-term_unknown (suc (suc (suc (suc (suc zero))))) l r a b c d e f g = absurd (f refl)
-term_unknown (suc (suc (suc (suc (suc (suc zero)))))) l r a b c d e f g = absurd (g refl)
-term_unknown (suc (suc (suc (suc (suc (suc (suc k))))))) l r a b c d e f g = refl
+unknown_by : (k l r : ℕ) → 6 < k → term_by k l r ≡ Unknown
+unknown_by zero l r h = absurd (omega arith)
+unknown_by (suc zero) l r h = absurd (omega arith)
+unknown_by (suc (suc zero)) l r h = absurd (omega arith)
+unknown_by (suc (suc (suc zero))) l r h = absurd (omega arith)
+unknown_by (suc (suc (suc (suc zero)))) l r h = absurd (omega arith)
+unknown_by (suc (suc (suc (suc (suc zero))))) l r h = absurd (omega arith)
+unknown_by (suc (suc (suc (suc (suc (suc zero)))))) l r h = absurd (omega arith)
+unknown_by (suc (suc (suc (suc (suc (suc (suc k))))))) l r h = refl
+
+pub term_unknown : (w : ℕ) → 6 < kind_of w → term_of w ≡ Unknown
+unfolding term_of
+term_unknown w h = unknown_by (kind_of w) (left_of w) (right_of w) h
+
+-- whether a number is a kind's
+pub read_fails : (n : ℕ) (r : Result Kind UnknownKind) → KindRead n r → is_err r ≡ true → 6 < n
+read_fails n (Ok kind) h e = absurd (false≢true e)
+read_fails n (Err unknown) h e = h.1
+
+number_most : (kind : Kind) → number_of kind ≤ 6
+number_most kinds.Principal = omega arith
+number_most kinds.Time = omega arith
+number_most kinds.Nonce = omega arith
+number_most kinds.LongTermKey = omega arith
+number_most kinds.SessionKey = omega arith
+number_most kinds.Pair = omega arith
+number_most kinds.Encrypted = omega arith
+
+pub read_holds : (n : ℕ) (r : Result Kind UnknownKind) → KindRead n r → is_err r ≡ false → n ≤ 6
+read_holds n (Ok kind) h e = omega (arith, number_most kind)
+read_holds n (Err unknown) h e = absurd (false≢true (sym e))
 
 term_by_lem : (w k l r : ℕ) → kind_of w ≡ k → left_of w ≡ l → right_of w ≡ r → term_of w ≡ term_by k l r
 unfolding term_of

@@ -1,11 +1,28 @@
 -- A term is one word, kind · 2 ^ 32 + L · 2 ^ 16 + R (document 01, "Terms": "A term has a kind and operands L and R, 16 bits
 -- each"). Equal terms are equal words, and the order of words is that by kind, then L, then R.
 -- Assumes nothing.
-use Rattle.std.specs.Prelude.{ℕ, zero, suc, ◌+◌, ◌*◌, ◌/◌, ◌%◌}
+use Rattle.std.specs.Prelude.{◌≡◌, Result, MatchResult, ℕ, zero, suc, ◌+◌, ◌*◌, ◌/◌, ◌%◌, ◌<◌}
+use Rattle.words.specs.declared.Kind.{Kind}
+use Rattle.words.specs.declared.Kind.TheVariants as kinds
+use Rattle.words.specs.declared.UnknownKind.{UnknownKind}
 use Rattle.words.specs.declared.Term.{Term}
 use Rattle.words.specs.declared.Term.TheVariants.{Principal, Time, Nonce, LongTermKey, SessionKey, Pair, Encrypted, Unknown}
 
 -- ---- definitions
+
+-- the number of a kind
+abbrev pub number_of : Kind → ℕ
+number_of kinds.Principal = 0
+number_of kinds.Time = 1
+number_of kinds.Nonce = 2
+number_of kinds.LongTermKey = 3
+number_of kinds.SessionKey = 4
+number_of kinds.Pair = 5
+number_of kinds.Encrypted = 6
+
+-- the kind of a number; one above 6 is no kind's
+abbrev pub KindRead : ℕ → Result Kind UnknownKind → Type 0
+KindRead n r = MatchResult r (λ kind. number_of kind ≡ n) (λ unknown. (unknown.0 ≡ n) × (6 < n))
 
 -- the word of a kind and operands L and R
 abbrev pub packed : (kind L R : ℕ) → ℕ

@@ -12,8 +12,10 @@ use Rattle.std.proofs.Math.Seq.{get_or-set_other}
 use Rattle.marks.specs.Marks.{Words, marked, with_mark, size}
 use Rattle.marks.proofs.Marks.{marked_same, marked_keeps, marked_new, with_words}
 use Rattle.marks.proofs.Size.{size_with, size_le}
+use Rattle.marks.proofs.Empty.{empty_words, empty_marked, empty_size}
+use Rattle.std.proofs.lemmas.List.{length-replicate}
 use Rattle.terms.proofs.Choice.{cond_elim, no_true}
-use Rattle.worklist.specs.Found.{Found, as_found, learn_of, Room, Listed, notice_of, start_of}
+use Rattle.worklist.specs.Found.{Found, as_found, blank, learn_of, Room, Listed, notice_of, start_of}
 
 -- nothing is lost, and what was in the list keeps its place
 pub record More (f g : Found) : Type 0 where
@@ -33,6 +35,10 @@ more_trans a b =
       longer = omega (arith, a.longer, b.longer);
       same = λ j lt. b.same j (omega (arith, a.longer)) ∙ a.same j lt;
     }
+
+-- all that has been found has a place
+pub room_most : (f : Found) → Room f → f.count ≤ 512
+room_most f r = omega (arith, r.counted, size_le r.words)
 
 -- a term that is new has a place
 pub new_place : (f : Found) → Room f → (t : ℕ) → t < 512 → marked f.known t ≡ false → f.count < 512
@@ -125,6 +131,9 @@ listed_none count w none empty places =
       member = λ j h. absurd (omega arith);
       below = λ i m. no_true (sym (none i) ∙ m);
     }
+
+pub blank_listed : (count : ℕ) → Listed count blank
+blank_listed count = listed_none count (empty_words 8) (empty_marked 8) (empty_size 8) (length-replicate {A = ℕ} 512 0)
 
 pub notice_room : (ws : List ℕ) (f : Found) (i : ℕ) → i < 512 → Room f → Room (notice_of ws f i)
 notice_room ws f i h r = cond_elim Room (marked ws i) (learn_of f i) f (λ _. learn_room f i h r) (λ _. r)

@@ -1,6 +1,6 @@
 -- The terms that have been found: a set of them, and a list in the order in which they were found. Each stands in the list once.
 -- Assumes nothing.
-use Rattle.std.specs.Prelude.{◌≡◌, cond, List, ℕ, zero, suc, ◌+◌, ◌<◌, get_or, set}
+use Rattle.std.specs.Prelude.{◌≡◌, cond, replicate, List, ℕ, zero, suc, ◌+◌, ◌<◌, get_or, set}
 use Rattle.std.proofs.Math.Bool.{true}
 use Rattle.std.proofs.Math.ListN.{length}
 use Rattle.marks.specs.Marks.{Words, marked, with_mark, size}
@@ -14,6 +14,10 @@ pub record Found : Type 0 where
 
 abbrev pub as_found : (known list : List ℕ) (count : ℕ) → Found
 as_found known list count = record { known = known; list = list; count = count }
+
+-- nothing has been found
+abbrev pub blank : Found
+blank = as_found (replicate 8 0) (replicate 512 0) 0
 
 -- term t goes behind the others, if it is new
 unfoldable pub learn_of : Found → ℕ → Found

@@ -1,28 +1,26 @@
 -- What follows from the definitions of the same name in specs/.
 -- Assumes nothing.
-use Rattle.std.specs.Prelude.{◌≡◌, refl, drop}
+use Rattle.std.specs.Prelude.{◌≡◌, refl, drop, Option, Some, None}
 use Rattle.std.proofs.Common.{sym, ◌∙◌, arith, length-append}
 use Rattle.std.proofs.Math.Path.{ap}
-use mathlib.Core.List.{List, [], ◌∷◌, ◌++◌, append_assoc, append-nil}
-use Prim.Native.Nat.{ℕ, zero, suc, ◌+◌, ◌*◌, ◌-◌, ◌/◌, ◌<◌, ◌≤◌}
+use mathlib.Core.List.{List, [], ◌++◌, append_assoc, append-nil}
+use Prim.Native.Nat.{ℕ, zero, suc, ◌+◌, ◌*◌, ◌-◌, ◌<◌, ◌≤◌}
 use Rattle.std.proofs.Math.ListN.{length, length-drop}
 use borrow.Rule.Slice.PartMut.{mid_of, put_mid}
+use Rattle.exchange.specs.declared.header.Format.{Format}
 use Rattle.exchange.specs.declared.header.Flags.{Flags}
 use Rattle.exchange.specs.declared.header.Flags.TheVariants.{Bits16, Bits32}
 use Rattle.exchange.specs.declared.header.Header.{Header}
-use Rattle.exchange.specs.declared.header.Lookup.{Lookup}
-use Rattle.exchange.specs.declared.header.Lookup.TheVariants.{Found, Missing}
 use Rattle.exchange.specs.Formats.{format_of}
 use Rattle.records.specs.Headers.{max_file, lives_at, format_bytes, header_width}
 use Rattle.raw_records.specs.declared.raw.RawRecord.{RawRecord}
-use Rattle.raw_records.specs.declared.raw.RawRecord.TheVariants.{Term, Step, Unknown}
+use Rattle.raw_records.specs.declared.raw.RawRecord.TheVariants.{Term, Step}
 use Rattle.raw_records.specs.Raw.{records_of, raw_at}
 use Rattle.raw_records.proofs.RawLaws.{record_next, none_left, cut_short}
 use Rattle.raw_records.proofs.Passing.{records_from}
 use Rattle.fields.proofs.Parts.{part_wrote, nothing_wrote}
 use Rattle.fields.specs.Placed.{Wrote}
 use Rattle.fields.proofs.Placed.{joined, wrote_as}
-use Rattle.fields.specs.Bytes.{low, high}
 use Rattle.writer.specs.File.{front_in_bytes, lives_in_bytes, header_as, header_in_bytes, record_in_bytes, records_in_bytes}
 use Rattle.writer.specs.Progress.{Measures}
 
@@ -34,38 +32,38 @@ pub record Progress (before : List ℕ) (at : ℕ) (words : List ℕ) (after : L
 
 -- ---- bytes
 
-pub record_short : (raw : RawRecord) → length (record_in_bytes raw) ≤ 12
+pub record_short : (raw : Option RawRecord) → length (record_in_bytes raw) ≤ 12
 unfolding record_in_bytes
-record_short (Term kind l r) = omega arith
-record_short (Step step run a b m t) = omega arith
-record_short Unknown = omega arith
+record_short (Some (Term kind l r)) = omega arith
+record_short (Some (Step step run a b m t)) = omega arith
+record_short None = omega arith
 
 pub front_long : (width : Flags) (g : Header) → length (front_in_bytes width g) ≡ lives_at width
 front_long Bits16 g = refl
 front_long Bits32 g = refl
 
-pub header_is : (g : Header) (l : Lookup) → format_of g.mark ≡ l → header_as l g ≡ header_in_bytes g
+pub header_is : (g : Header) (l : Option Format) → format_of g.mark ≡ l → header_as l g ≡ header_in_bytes g
 unfolding header_in_bytes
-header_is g l e = ap (λ (x : Lookup). header_as x g) (sym e)
+header_is g l e = ap (λ (x : Option Format). header_as x g) (sym e)
 
 pub header_long : (g : Header) → length (header_in_bytes g) ≡ header_width g.mark
 unfolding header_in_bytes header_width
 header_long g = by (format_of g.mark)
   where
-    by : (l : Lookup) → length (header_as l g) ≡ format_bytes l
-    by (Found f) = length-append (front_in_bytes f.flags g) (lives_in_bytes g.ls g.la) ∙ ap (λ (k : ℕ). k + 8) (front_long f.flags g)
-    by Missing = refl
+    by : (l : Option Format) → length (header_as l g) ≡ format_bytes l
+    by (Some f) = length-append (front_in_bytes f.flags g) (lives_in_bytes g.ls g.la) ∙ ap (λ (k : ℕ). k + 8) (front_long f.flags g)
+    by None = refl
 
 module _ (words : List ℕ) (i : ℕ) where
   pub body_next : i * 7 + 7 ≤ length words → records_in_bytes (records_from words i) ≡ record_in_bytes (raw_at words (i * 7)) ++ records_in_bytes (records_from words (i + 1))
   body_next h = ap records_in_bytes (record_next words i h)
 
-  pub length_next : i * 7 + 7 ≤ length words → {k : ℕ} {raw : RawRecord} → raw ≡ raw_at words (i * 7) → k ≡ length (record_in_bytes raw)
+  pub length_next : i * 7 + 7 ≤ length words → {k : ℕ} {raw : Option RawRecord} → raw ≡ raw_at words (i * 7) → k ≡ length (record_in_bytes raw)
       → length (records_in_bytes (records_from words i)) ≡ k + length (records_in_bytes (records_from words (i + 1)))
   length_next h {k} {raw} e l =
       ap (λ (b : List ℕ). length b) (body_next h)
       ∙ length-append (record_in_bytes (raw_at words (i * 7))) (records_in_bytes (records_from words (i + 1)))
-      ∙ ap (λ (j : ℕ). j + length (records_in_bytes (records_from words (i + 1)))) (sym (l ∙ ap (λ (x : RawRecord). length (record_in_bytes x)) e))
+      ∙ ap (λ (j : ℕ). j + length (records_in_bytes (records_from words (i + 1)))) (sym (l ∙ ap (λ (x : Option RawRecord). length (record_in_bytes x)) e))
 
   pub body_end : i * 7 ≤ length words → length words < i * 7 + 7 → records_in_bytes (records_from words i) ≡ []
   unfolding record_in_bytes
@@ -81,46 +79,11 @@ measured_above r bytes h l = record { exact = λ s. absurd (omega arith); above 
 pub measured_end : (r bytes : ℕ) → r ≡ bytes → Measures r bytes
 measured_end r bytes e = record { exact = λ s. e; above = λ s. omega arith }
 
--- ---- one record
+-- ---- no record
 
-module _ (kind l r : ℕ) where
-  pub term_bytes_lem : {b₂ b₃ b₄ b₅ b₆ : ℕ} → b₂ ≡ low kind → b₃ ≡ high l → b₄ ≡ low l → b₅ ≡ high r → b₆ ≡ low r
-      → 0x54 ∷ 0x4D ∷ b₂ ∷ b₃ ∷ b₄ ∷ b₅ ∷ b₆ ∷ [] ≡ record_in_bytes (Term kind l r)
-  unfolding record_in_bytes
-  term_bytes_lem e₂ e₃ e₄ e₅ e₆ = rw (e₂, e₃, e₄, e₅, e₆)
-
-  pub term_room : {raw : RawRecord} {room : ℕ} → raw ≡ Term kind l r → length (record_in_bytes raw) ≤ room → 7 ≤ room
-  unfolding record_in_bytes
-  term_room e h = rw e at h
-
-module _ (step run a b m t : ℕ) where
-  pub step_bytes_lem : {b₂ b₃ b₄ b₅ b₆ b₇ b₈ b₉ c₀ c₁ : ℕ} → b₂ ≡ low step → b₃ ≡ low run → b₄ ≡ low a → b₅ ≡ low b → b₆ ≡ high m → b₇ ≡ low m
-      → b₈ ≡ high (t / 65536) → b₉ ≡ low (t / 65536) → c₀ ≡ high t → c₁ ≡ low t
-      → 0x53 ∷ 0x54 ∷ b₂ ∷ b₃ ∷ b₄ ∷ b₅ ∷ b₆ ∷ b₇ ∷ b₈ ∷ b₉ ∷ c₀ ∷ c₁ ∷ [] ≡ record_in_bytes (Step step run a b m t)
-  unfolding record_in_bytes
-  step_bytes_lem e₂ e₃ e₄ e₅ e₆ e₇ e₈ e₉ f₀ f₁ = rw (e₂, e₃, e₄, e₅, e₆, e₇, e₈, e₉, f₀, f₁)
-
-  pub step_room : {raw : RawRecord} {room : ℕ} → raw ≡ Step step run a b m t → length (record_in_bytes raw) ≤ room → 12 ≤ room
-  unfolding record_in_bytes
-  step_room e h = rw e at h
-
-module _ (g : Header) where
-  pub narrow_bytes : {b₀ b₁ b₃ b₄ : ℕ} → b₀ ≡ high g.mark → b₁ ≡ low g.mark → b₃ ≡ high g.flags → b₄ ≡ low g.flags
-      → b₀ ∷ b₁ ∷ g.n ∷ b₃ ∷ b₄ ∷ [] ≡ front_in_bytes Bits16 g
-  narrow_bytes e₀ e₁ e₃ e₄ = rw (e₀, e₁, e₃, e₄)
-
-  pub wide_bytes : {b₀ b₁ b₃ b₄ b₅ b₆ : ℕ} → b₀ ≡ high g.mark → b₁ ≡ low g.mark → b₃ ≡ high (g.flags / 65536) → b₄ ≡ low (g.flags / 65536)
-      → b₅ ≡ high g.flags → b₆ ≡ low g.flags → b₀ ∷ b₁ ∷ g.n ∷ b₃ ∷ b₄ ∷ b₅ ∷ b₆ ∷ [] ≡ front_in_bytes Bits32 g
-  wide_bytes e₀ e₁ e₃ e₄ e₅ e₆ = rw (e₀, e₁, e₃, e₄, e₅, e₆)
-
-pub lives_bytes : (ls la : ℕ) {b₀ b₁ b₂ b₃ b₄ b₅ b₆ b₇ : ℕ} → b₀ ≡ high (ls / 65536) → b₁ ≡ low (ls / 65536) → b₂ ≡ high ls → b₃ ≡ low ls
-    → b₄ ≡ high (la / 65536) → b₅ ≡ low (la / 65536) → b₆ ≡ high la → b₇ ≡ low la
-    → b₀ ∷ b₁ ∷ b₂ ∷ b₃ ∷ b₄ ∷ b₅ ∷ b₆ ∷ b₇ ∷ [] ≡ lives_in_bytes ls la
-lives_bytes ls la e₀ e₁ e₂ e₃ e₄ e₅ e₆ e₇ = rw (e₀, e₁, e₂, e₃, e₄, e₅, e₆, e₇)
-
-pub unknown_wrote : (xs : List ℕ) {raw : RawRecord} → raw ≡ Unknown → Wrote xs 0 (record_in_bytes raw) xs 0
+pub none_wrote : (xs : List ℕ) {raw : Option RawRecord} → raw ≡ None → Wrote xs 0 (record_in_bytes raw) xs 0
 unfolding record_in_bytes
-unknown_wrote xs e = wrote_as (sym (ap record_in_bytes e)) (nothing_wrote xs 0)
+none_wrote xs e = wrote_as (sym (ap record_in_bytes e)) (nothing_wrote xs 0)
 
 -- ---- one record after the other
 
@@ -138,7 +101,7 @@ module _ (before : List ℕ) (at : ℕ) (words : List ℕ) (room : at + length (
     pub end_within : end ≤ length before
     end_within = omega (arith, room, p.wrote.offset, length-append p.done (records_in_bytes (records_from words i)), ap (λ (b : List ℕ). length b) p.whole)
 
-    pub next_fits : i * 7 + 7 ≤ length words → {raw : RawRecord} → raw ≡ raw_at words (i * 7) → end + length (record_in_bytes raw) ≤ length before
+    pub next_fits : i * 7 + 7 ≤ length words → {raw : Option RawRecord} → raw ≡ raw_at words (i * 7) → end + length (record_in_bytes raw) ≤ length before
     next_fits h {raw} e =
         omega (
           arith,
@@ -149,13 +112,13 @@ module _ (before : List ℕ) (at : ℕ) (words : List ℕ) (room : at + length (
           length_next words i h e refl,
         )
 
-    pub goes_on : i * 7 + 7 ≤ length words → {raw : RawRecord} → raw ≡ raw_at words (i * 7) → {part : List ℕ} {n : ℕ}
+    pub goes_on : i * 7 + 7 ≤ length words → {raw : Option RawRecord} → raw ≡ raw_at words (i * 7) → {part : List ℕ} {n : ℕ}
         → Wrote (mid_of end (length after - end) after) 0 (record_in_bytes raw) part n
         → Progress before at words (put_mid end (length after - end) after part) (end + n) (i + 1)
     goes_on h {raw} e {part} {n} w = record {
       done = p.done ++ record_in_bytes raw;
       whole = append_assoc p.done (record_in_bytes raw) (records_in_bytes (records_from words (i + 1)))
-          ∙ ap (λ (x : RawRecord). p.done ++ (record_in_bytes x ++ records_in_bytes (records_from words (i + 1)))) e
+          ∙ ap (λ (x : Option RawRecord). p.done ++ (record_in_bytes x ++ records_in_bytes (records_from words (i + 1)))) e
           ∙ ap (λ (b : List ℕ). p.done ++ b) (sym (body_next words i h))
           ∙ p.whole;
       wrote = joined (omega (arith, room)) p.wrote (part_wrote after end (record_in_bytes raw) w);

@@ -1,6 +1,6 @@
 -- What follows from the definitions of the same name in specs/.
 -- Assumes nothing.
-use Rattle.std.specs.Prelude.{List, [], ◌∷◌, ◌≡◌, refl, Bool, true, false, cond, ltb, leb}
+use Rattle.std.specs.Prelude.{List, [], ◌∷◌, ◌≡◌, refl, Bool, true, false, cond, ltb, leb, Option, Ok, Err}
 use Rattle.std.proofs.Common.{sym, ◌∙◌, arith, le-leb, lt-ltb, le-ltb, ltb-true, ltb-false, leb-true, length-append}
 use Rattle.std.proofs.Math.Path.{ap}
 use Prim.Native.Nat.{ℕ, zero, suc, ◌+◌, ◌-◌, ◌<◌, ◌≤◌}
@@ -12,9 +12,8 @@ use Rattle.records.specs.Headers.{max_file, header_width}
 use Rattle.raw_records.specs.declared.raw.RawRecord.{RawRecord}
 use Rattle.raw_records.specs.Raw.{records_of}
 use Rattle.raw_records.specs.Refusals.{first, first_of, records_refusal}
-use Rattle.raw_records.proofs.Refusals.{first_none, first_zero}
+use Rattle.raw_records.proofs.Refusals.{first_some, first_none, first_zero}
 use Rattle.fields.specs.Placed.{Wrote}
-use Rattle.writer.specs.declared.walk.Filing.TheVariants.{Written, Refused}
 use Rattle.writer.specs.File.{header_in_bytes, records_in_bytes, file_of}
 use Rattle.writer.specs.Progress.{Measures}
 use Rattle.writer.proofs.Progress.{header_long}
@@ -32,15 +31,16 @@ module _ (places at bytes : ℕ) where
 -- ---- laws: the refusals, one after the other
 
 -- the file's length
-pub file_length : (g : Header) (raws : List RawRecord) → length (file_of g raws) ≡ header_width g.mark + length (records_in_bytes raws)
+pub file_length : (g : Header) (raws : List (Option RawRecord)) → length (file_of g raws) ≡ header_width g.mark + length (records_in_bytes raws)
 unfolding file_of
 file_length g raws = length-append (header_in_bytes g) (records_in_bytes raws) ∙ ap (λ (k : ℕ). k + length (records_in_bytes raws)) (header_long g)
 
-in_order : (a b c d : ℕ) → first (first (first a b) c) d ≡ first_of (a ∷ b ∷ c ∷ d ∷ [])
-in_order zero zero zero d = sym (first_none d)
-in_order zero zero (suc c) d = refl
-in_order zero (suc b) c d = refl
-in_order (suc a) b c d = refl
+-- the first of some numbers that is not 0, where it is the first of all, and where it stands behind a 0
+here : {a k : ℕ} (rest : List ℕ) → k ≡ a → (k ≡ 0 → ⊥) → k ≡ first_of (a ∷ rest)
+here {a} {k} rest e n = first_some k (first_of rest) n ∙ ap (λ (j : ℕ). first j (first_of rest)) e
+
+later : {a k : ℕ} (rest : List ℕ) → 0 ≡ a → k ≡ first_of rest → k ≡ first_of (a ∷ rest)
+later {a} {k} rest z e = e ∙ ap (λ (j : ℕ). first j (first_of rest)) z
 
 -- a length above the limit decides, whatever it is
 long_decides : (bytes whole header raws places at : ℕ) → Measures bytes whole
@@ -52,16 +52,30 @@ long_decides bytes whole header raws places at m = on (ltb max_file whole) refl
     on true e = rw (e, lt-ltb max_file bytes (m.above (ltb-true max_file whole e)))
     on false e = ap (λ (k : ℕ). first_of (length_refusal k ∷ header ∷ raws ∷ room_refusal places at k ∷ [])) (m.exact (ltb-false max_file whole e))
 
-module _ (g : Header) (raws : List RawRecord) (places at : ℕ) where
-  -- the code's refusal, from those of the functions that it calls
-  pub write_refusal_told : {bytes a b c d ab abc told : ℕ} → Measures bytes (header_width g.mark + length (records_in_bytes raws)) → a ≡ length_refusal bytes → b ≡ header_refusal g
-      → ab ≡ first a b → c ≡ records_refusal g.n raws → abc ≡ first ab c → d ≡ room_refusal places at bytes → told ≡ first abc d
-      → told ≡ write_refusal g raws places at
+module _ (g : Header) (raws : List (Option RawRecord)) (places at : ℕ) {bytes : ℕ} (m : Measures bytes (header_width g.mark + length (records_in_bytes raws))) where
+  -- the refusals, by the bytes that the code measures
+  pub by_measure : first_of (length_refusal bytes ∷ header_refusal g ∷ records_refusal g.n raws ∷ room_refusal places at bytes ∷ []) ≡ write_refusal g raws places at
   unfolding write_refusal
-  write_refusal_told {bytes} m ea eb eab ec eabc ed e =
-      rw (e, eabc, eab, ea, eb, ec, ed, file_length g raws)
-      (in_order (length_refusal bytes) (header_refusal g) (records_refusal g.n raws) (room_refusal places at bytes)
-      ∙ long_decides bytes (header_width g.mark + length (records_in_bytes raws)) (header_refusal g) (records_refusal g.n raws) places at m)
+  by_measure =
+      rw (file_length g raws) (long_decides bytes (header_width g.mark + length (records_in_bytes raws)) (header_refusal g) (records_refusal g.n raws) places at m)
+
+  -- the first that is not 0 decides
+  pub by_length : {k : ℕ} → k ≡ length_refusal bytes → (k ≡ 0 → ⊥) → k ≡ write_refusal g raws places at
+  by_length {k} e n = here (header_refusal g ∷ records_refusal g.n raws ∷ room_refusal places at bytes ∷ []) e n ∙ by_measure
+
+  pub by_header : {k : ℕ} → 0 ≡ length_refusal bytes → k ≡ header_refusal g → (k ≡ 0 → ⊥) → k ≡ write_refusal g raws places at
+  by_header {k} z e n = later (header_refusal g ∷ records_refusal g.n raws ∷ room_refusal places at bytes ∷ []) z (here (records_refusal g.n raws ∷ room_refusal places at bytes ∷ []) e n) ∙ by_measure
+
+  pub by_record : {k : ℕ} → 0 ≡ length_refusal bytes → 0 ≡ header_refusal g → k ≡ records_refusal g.n raws → (k ≡ 0 → ⊥) → k ≡ write_refusal g raws places at
+  by_record {k} z y e n =
+      later (header_refusal g ∷ records_refusal g.n raws ∷ room_refusal places at bytes ∷ []) z
+      (later (records_refusal g.n raws ∷ room_refusal places at bytes ∷ []) y (here (room_refusal places at bytes ∷ []) e n)) ∙ by_measure
+
+  pub by_room : {k : ℕ} → 0 ≡ length_refusal bytes → 0 ≡ header_refusal g → 0 ≡ records_refusal g.n raws → k ≡ room_refusal places at bytes → k ≡ write_refusal g raws places at
+  by_room {k} z y x e =
+      later (header_refusal g ∷ records_refusal g.n raws ∷ room_refusal places at bytes ∷ []) z
+      (later (records_refusal g.n raws ∷ room_refusal places at bytes ∷ []) y
+      (later (room_refusal places at bytes ∷ []) x (e ∙ sym (first_none (room_refusal places at bytes))))) ∙ by_measure
 
 picked_zero : (t : Bool) (k : ℕ) → ◌≡◌ {A = ℕ} (cond t 0 (suc k)) 0 → t ≡ true
 picked_zero true k e = refl
@@ -71,7 +85,7 @@ picked_other : (t : Bool) (k : ℕ) → ◌≡◌ {A = ℕ} (cond t (suc k) 0) 0
 picked_other true k e = absurd (omega arith)
 picked_other false k e = refl
 
-pub zero_passes : (g : Header) (raws : List RawRecord) (places at : ℕ) → write_refusal g raws places at ≡ 0 → WalkPasses g raws places at
+pub zero_passes : (g : Header) (raws : List (Option RawRecord)) (places at : ℕ) → write_refusal g raws places at ≡ 0 → WalkPasses g raws places at
 unfolding write_refusal
 zero_passes g raws places at e =
     let bytes : ℕ = length (file_of g raws) in
@@ -87,20 +101,20 @@ zero_passes g raws places at e =
     }
 
 module _ (g : Header) (words buffer : List ℕ) (at : ℕ) where
-  pub refused : (k : ℕ) → k ≡ write_refusal g (records_of words) (length buffer) at → (k ≡ 0 → ⊥) → write_outcome (Refused k) buffer ≡ write_of g words buffer at
+  pub refused : (k : ℕ) → k ≡ write_refusal g (records_of words) (length buffer) at → (k ≡ 0 → ⊥) → write_outcome (Err k) buffer ≡ write_of g words buffer at
   unfolding write_of
   refused zero e s = absurd (s refl)
   refused (suc k) e s = ap (λ (r : ℕ). by_refusal r buffer at (file_of g (records_of words))) e
 
   pub written : (k : ℕ) → k ≡ write_refusal g (records_of words) (length buffer) at → k ≡ 0 → {after : List ℕ} {end : ℕ}
-      → Wrote buffer at (file_of g (records_of words)) after end → write_outcome (Written (end - at)) after ≡ write_of g words buffer at
+      → Wrote buffer at (file_of g (records_of words)) after end → write_outcome (Ok (end - at)) after ≡ write_of g words buffer at
   unfolding write_of
   written k e z {after} {end} w =
-      ap (λ (j : ℕ). write_outcome (Written j) after) (omega (arith, w.offset))
-      ∙ ap (write_outcome (Written (length (file_of g (records_of words))))) w.contents
+      ap (λ (j : ℕ). write_outcome (Ok j) after) (omega (arith, w.offset))
+      ∙ ap (write_outcome (Ok (length (file_of g (records_of words))))) w.contents
       ∙ ap (λ (r : ℕ). by_refusal r buffer at (file_of g (records_of words))) (sym z ∙ e)
 
-pub passes_zero : (g : Header) (raws : List RawRecord) (places at : ℕ) → WalkPasses g raws places at → write_refusal g raws places at ≡ 0
+pub passes_zero : (g : Header) (raws : List (Option RawRecord)) (places at : ℕ) → WalkPasses g raws places at → write_refusal g raws places at ≡ 0
 unfolding write_refusal
 passes_zero g raws places at a =
     let bytes : ℕ = length (file_of g raws) in

@@ -1,12 +1,11 @@
 // The bytes of one record, put at the front of a lent part of the buffer. Each function answers how many bytes it wrote.
-ghost use Rattle.std.specs.Prelude.{◌≡◌, ◌++◌, ◌+◌, ◌≤◌, length};
+ghost use Rattle.std.specs.Prelude.{◌≡◌, ◌++◌, ◌+◌, ◌≤◌, length, Some};
 ghost use Rattle.fields.specs.Placed.{Wrote};
 ghost use Rattle.raw_records.specs.declared.raw.RawRecord.TheVariants.{Term, Step};
-ghost use Rattle.fields.specs.Bytes.{low};
 ghost use Rattle.records.specs.Headers.{lives_at, header_width};
 ghost use Rattle.writer.specs.File.{front_in_bytes, lives_in_bytes, header_in_bytes, record_in_bytes};
 
-use exchange::header::{Flags, Header, Lookup, format_of};
+use exchange::header::{Flags, Header, format_of};
 use fields::write_text;
 use raw_records::raw::RawRecord;
 use records::record::{STEP_BYTES, TERM_BYTES};
@@ -19,47 +18,19 @@ fn copy(text: &[u8], out: &mut [u8]) -> usize
     write_text(out, 0, text)
 }
 
-// The lowest byte.
-fn low(x: u32) -> u8
-    ensures { result ≡ low x }
-{
-    (x % 256) as u8
-}
-
 // The mark, n and the flags.
 fn write_front(out: &mut [u8], width: Flags, header: Header) -> usize
     requires { lives_at width ≤ length out.old }
     ensures { Wrote out.old 0 (front_in_bytes width header) out.new result }
 {
-    let mark = header.mark as u32;
-    let mark_high = mark / 256;
-    let flags = header.flags;
-    let flags_high = flags / 256;
+    let [mark_high, mark_low] = header.mark.to_be_bytes();
+    let [first, second, third, last] = header.flags.to_be_bytes();
     match width {
-        Flags::Bits16 => {
-            let front = [
-                low(mark_high),
-                low(mark),
-                header.n,
-                low(flags_high),
-                low(flags),
-            ];
-            copy(&front, out)
-        }
-        Flags::Bits32 => {
-            let flags_upper = flags / 65536;
-            let flags_first = flags_upper / 256;
-            let front = [
-                low(mark_high),
-                low(mark),
-                header.n,
-                low(flags_first),
-                low(flags_upper),
-                low(flags_high),
-                low(flags),
-            ];
-            copy(&front, out)
-        }
+        Flags::Bits16 => copy(&[mark_high, mark_low, header.n, third, last], out),
+        Flags::Bits32 => copy(
+            &[mark_high, mark_low, header.n, first, second, third, last],
+            out,
+        ),
     }
 }
 
@@ -68,23 +39,14 @@ fn write_lives(out: &mut [u8], ls: u32, la: u32) -> usize
     requires { 8 ≤ length out.old }
     ensures { Wrote out.old 0 (lives_in_bytes ls la) out.new result }
 {
-    let ls_upper = ls / 65536;
-    let ls_first = ls_upper / 256;
-    let ls_third = ls / 256;
-    let la_upper = la / 65536;
-    let la_first = la_upper / 256;
-    let la_third = la / 256;
-    let lives = [
-        low(ls_first),
-        low(ls_upper),
-        low(ls_third),
-        low(ls),
-        low(la_first),
-        low(la_upper),
-        low(la_third),
-        low(la),
-    ];
-    copy(&lives, out)
+    let [ls_first, ls_second, ls_third, ls_last] = ls.to_be_bytes();
+    let [la_first, la_second, la_third, la_last] = la.to_be_bytes();
+    copy(
+        &[
+            ls_first, ls_second, ls_third, ls_last, la_first, la_second, la_third, la_last,
+        ],
+        out,
+    )
 }
 
 fn write_values(out: &mut [u8], width: Flags, header: Header) -> usize
@@ -102,96 +64,77 @@ pub fn write_header(out: &mut [u8], header: Header) -> usize
     ensures { Wrote out.old 0 (header_in_bytes header) out.new result }
 {
     match format_of(header.mark) {
-        Lookup::Found(format) => {
+        Some(format) => {
             let width = format.flags;
             write_values(out, width, header)
         }
-        Lookup::Missing => 0,
+        None => 0,
     }
 }
 
-// TM, kind, L, R.
+// TM, kind, L, R: the low bytes of each.
+#[tactic(auto, unfolding(crate::specs::File::record_in_bytes))]
 fn write_term(out: &mut [u8], kind: u32, l: u32, r: u32) -> usize
     requires { 7 ≤ length out.old }
-    ensures { Wrote out.old 0 (record_in_bytes (Term kind l r)) out.new result }
+    ensures { Wrote out.old 0 (record_in_bytes (Some (Term kind l r))) out.new result }
 {
-    let l_high = l / 256;
-    let r_high = r / 256;
-    let record = [
-        b'T',
-        b'M',
-        low(kind),
-        low(l_high),
-        low(l),
-        low(r_high),
-        low(r),
-    ];
-    copy(&record, out)
+    let [_, _, _, kind_low] = kind.to_be_bytes();
+    let [_, _, l_high, l_low] = l.to_be_bytes();
+    let [_, _, r_high, r_low] = r.to_be_bytes();
+    copy(&[b'T', b'M', kind_low, l_high, l_low, r_high, r_low], out)
 }
 
-// ST, step, run, a, b, m, t.
+// ST, step, run, a, b, m, t: the low bytes of each.
+#[tactic(auto, unfolding(crate::specs::File::record_in_bytes))]
 fn write_step(out: &mut [u8], step: u32, run: u32, a: u32, b: u32, m: u32, t: u32) -> usize
     requires { 12 ≤ length out.old }
-    ensures { Wrote out.old 0 (record_in_bytes (Step step run a b m t)) out.new result }
+    ensures { Wrote out.old 0 (record_in_bytes (Some (Step step run a b m t))) out.new result }
 {
-    let m_high = m / 256;
-    let t_upper = t / 65536;
-    let t_first = t_upper / 256;
-    let t_third = t / 256;
-    let record = [
-        b'S',
-        b'T',
-        low(step),
-        low(run),
-        low(a),
-        low(b),
-        low(m_high),
-        low(m),
-        low(t_first),
-        low(t_upper),
-        low(t_third),
-        low(t),
-    ];
-    copy(&record, out)
+    let [_, _, _, step_low] = step.to_be_bytes();
+    let [_, _, _, run_low] = run.to_be_bytes();
+    let [_, _, _, a_low] = a.to_be_bytes();
+    let [_, _, _, b_low] = b.to_be_bytes();
+    let [_, _, m_high, m_low] = m.to_be_bytes();
+    let [t_first, t_second, t_third, t_last] = t.to_be_bytes();
+    copy(
+        &[
+            b'S', b'T', step_low, run_low, a_low, b_low, m_high, m_low, t_first, t_second, t_third,
+            t_last,
+        ],
+        out,
+    )
 }
 
 // A record; what is none has no bytes.
-pub fn write_record(out: &mut [u8], raw: RawRecord) -> usize
+#[tactic(auto, using(crate::proofs::Progress::none_wrote), unfolding(crate::specs::File::record_in_bytes))]
+pub fn write_record(out: &mut [u8], raw: Option<RawRecord>) -> usize
     requires { length (record_in_bytes raw) ≤ length out.old }
     ensures { Wrote out.old 0 (record_in_bytes raw) out.new result }
 {
     match raw {
-        RawRecord::Term { kind, l, r } => write_term(out, kind, l, r),
-        RawRecord::Step {
-            step,
-            run,
-            a,
-            b,
-            m,
-            t,
-        } => write_step(out, step, run, a, b, m, t),
-        RawRecord::Unknown => 0,
+        Some(RawRecord::Term { kind, l, r }) => write_term(out, kind, l, r),
+        Some(
+            RawRecord::Step {
+                step,
+                run,
+                a,
+                b,
+                m,
+                t,
+            },
+        ) => write_step(out, step, run, a, b, m, t),
+        None => 0,
     }
 }
 
 // How many bytes a record takes.
-pub fn record_width(raw: RawRecord) -> usize
+#[tactic(auto, unfolding(crate::specs::File::record_in_bytes))]
+pub fn record_width(raw: Option<RawRecord>) -> usize
     ensures { result ≡ length (record_in_bytes raw) }
 {
     match raw {
-        RawRecord::Term {
-            kind: _,
-            l: _,
-            r: _,
-        } => TERM_BYTES,
-        RawRecord::Step {
-            step: _,
-            run: _,
-            a: _,
-            b: _,
-            m: _,
-            t: _,
-        } => STEP_BYTES,
-        RawRecord::Unknown => 0,
+        Some(RawRecord::Term { .. }) => TERM_BYTES,
+        Some(RawRecord::Step { .. }) => STEP_BYTES,
+        None => 0,
     }
 }

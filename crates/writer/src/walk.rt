@@ -1,5 +1,6 @@
 // A whole walk: everything is looked at before the first byte is written, so that a refused call keeps the buffer.
 ghost use Rattle.std.specs.Prelude.{◌≡◌, ◌+◌, ◌≤◌, length};
+ghost use Rattle.refusals.specs.Numbers.{number_of, numbered};
 ghost use Rattle.fields.specs.Placed.{Wrote};
 ghost use Rattle.records.specs.Headers.{header_width};
 ghost use Rattle.raw_records.specs.Raw.{records_of};
@@ -8,20 +9,12 @@ ghost use Rattle.writer.specs.Write.{length_refusal, room_refusal, write_outcome
 ghost use Rattle.writer.specs.Progress.{Measures};
 
 use super::record::{record_width, write_header, write_record};
-use exchange::header::{Header, REFUSE_FILE};
+use exchange::header::Header;
 use raw_records::raw::{RECORD_WORDS, raw_at};
-use raw_records::refusal::{first, records_refusal};
-use realm::header::header_refusal;
+use raw_records::refusal::check_records;
+use realm::header::check_header;
 use records::header::{MAX_FILE, header_width};
-
-pub const REFUSE_ROOM: u8 = 21;
-
-#[derive(Clone, Copy)]
-pub enum Filing {
-    // bytes from the offset on
-    Written(usize),
-    Refused(u8),
-}
+use refusals::Refusal;
 
 // How many bytes the file takes, or any number above its limit if it takes more.
 fn measure(mark: u16, words: &[u32]) -> usize
@@ -29,36 +22,31 @@ fn measure(mark: u16, words: &[u32]) -> usize
 {
     let count = words.len() / RECORD_WORDS;
     let mut bytes = header_width(mark);
-    let mut i: usize = 0;
-    while i < count {
+    for i in 0..count {
         bytes += record_width(raw_at(words, i * RECORD_WORDS));
         if MAX_FILE < bytes {
             return bytes;
         }
-        i += 1;
     }
     bytes
 }
 
-fn length_refusal(bytes: usize) -> u8
-    ensures { result ≡ length_refusal bytes }
+fn check_length(bytes: usize) -> Result<(), Refusal>
+    ensures { number_of result ≡ length_refusal bytes }
 {
     if MAX_FILE < bytes {
-        return REFUSE_FILE;
+        return Err(Refusal::File);
     }
-    0
+    Ok(())
 }
 
-fn room_refusal(places: usize, at: usize, bytes: usize) -> u8
-    ensures { result ≡ room_refusal places at bytes }
+fn check_room(places: usize, at: usize, bytes: usize) -> Result<(), Refusal>
+    ensures { number_of result ≡ room_refusal places at bytes }
 {
-    if places < at {
-        return REFUSE_ROOM;
+    if places < at || places - at < bytes {
+        return Err(Refusal::Room);
     }
-    if places - at < bytes {
-        return REFUSE_ROOM;
-    }
-    0
+    Ok(())
 }
 
 // The records, one after another; each is lent the buffer's part from where the one before it ended.
@@ -68,12 +56,9 @@ fn write_records(out: &mut [u8], at: usize, words: &[u32]) -> usize
 {
     let count = words.len() / RECORD_WORDS;
     let mut end = at;
-    let mut i: usize = 0;
-    while i < count {
+    for i in 0..count {
         let raw = raw_at(words, i * RECORD_WORDS);
-        let written = write_record(&mut out[end..], raw);
-        end += written;
-        i += 1;
+        end += write_record(&mut out[end..], raw);
     }
     end
 }
@@ -87,19 +72,21 @@ fn write_file(out: &mut [u8], at: usize, header: Header, words: &[u32]) -> usize
     write_records(out, at + written, words)
 }
 
-// A header and a list of records into the buffer, from an offset on; or a refusal, and the buffer is as it was.
-pub fn write_walk(header: Header, words: &[u32], out: &mut [u8], at: usize) -> Filing
-    ensures { write_outcome result out.new ≡ write_of header words.now out.old at }
+// A header and a list of records into the buffer, from an offset on, and how many bytes they take; or a refusal, and the buffer is as
+// it was.
+pub fn write_walk(
+    header: Header,
+    words: &[u32],
+    out: &mut [u8],
+    at: usize,
+) -> Result<usize, Refusal>
+    ensures { write_outcome (numbered result) out.new ≡ write_of header words.now out.old at }
 {
     let bytes = measure(header.mark, words);
-    let by_length = length_refusal(bytes);
-    let by_header = header_refusal(header);
-    let by_record = records_refusal(words, header.n);
-    let by_room = room_refusal(out.len(), at, bytes);
-    let refusal = first(first(first(by_length, by_header), by_record), by_room);
-    if refusal != 0 {
-        return Filing::Refused(refusal);
-    }
+    check_length(bytes)?;
+    check_header(header)?;
+    check_records(words, header.n)?;
+    check_room(out.len(), at, bytes)?;
     let end = write_file(out, at, header, words);
-    Filing::Written(end - at)
+    Ok(end - at)
 }

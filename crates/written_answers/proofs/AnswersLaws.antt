@@ -1,14 +1,13 @@
 -- What follows from the definitions of the same name in specs/.
 -- Assumes nothing.
-use Rattle.std.specs.Prelude.{◌≡◌, refl, Bool, true, false, cond, ℕ, ◌≤◌, eqb, length}
+use Rattle.std.specs.Prelude.{◌≡◌, refl, Bool, true, false, cond, ℕ, ◌≤◌, eqb, length, Err}
 use Rattle.std.proofs.Common.{sym, ap, ◌∙◌, inl, inr, arith}
 use Rattle.terms.proofs.AllOf.{five}
 use Rattle.terms.proofs.Choice.{cond_elim}
 use Rattle.terms.specs.Valid.{holds}
 use Rattle.terms.proofs.Valid.{holds_valid}
-use Rattle.exchange.specs.declared.call.Answer.TheVariants.{Refused}
 use Rattle.exchange.specs.declared.call.Call.{Call}
-use Rattle.exchange.specs.Calls.{Sized}
+use Rattle.exchange.specs.Calls.{Answer, Sized}
 use Rattle.runs.specs.Lent.{rows_hold}
 use Rattle.runs.proofs.Promises.{rows_decided}
 use Rattle.realm.specs.Check.{together, wire_holds, entries_hold}
@@ -49,7 +48,7 @@ module _ (t : Tables) (few_runs : t.realm.runs ≤ 256) (few_terms : t.realm.ter
       by true e = absurd (some (passing z ∙ ap (λ (b : Bool). cond b 0 6) e))
       by false e = inl (is ∙ passing z ∙ ap (λ (b : Bool). cond b 0 6) e, e)
 
-  pub called_past : own ≡ 0 → {k : ℕ} → (called t c).answer ≡ Refused k → LeftApart t c k
+  pub called_past : own ≡ 0 → {k : ℕ} → (called t c).answer ≡ Err k → LeftApart t c k
   called_past z e = apart_by z (call_number t c e)
 
   pub called_absent : own ≡ 0 → walk_has t.realm t.terms c ≡ false → called t c ≡ refuse t 6
@@ -77,14 +76,14 @@ few t e =
     let runs = (rows_decided h.n t.runs h.runs t.terms h.terms).0 f.third in
     (omega (arith, runs.room), omega (arith, terms.room))
 
-pub lent_past : (t : Tables) (c : Call) → Sized c → own_refusal t.realm.n (raw_for c) ≡ 0 → {k : ℕ} → (lent_call t c).answer ≡ Refused k → LeftApart t c k
+pub lent_past : (t : Tables) (c : Call) → Sized c → own_refusal t.realm.n (raw_for c) ≡ 0 → {k : ℕ} → (lent_call t c).answer ≡ Err k → LeftApart t c k
 unfolding lent_call checked
 lent_past t c sized z {k} =
     cond_elim Past (eqb (length t.cache) 16) (checked t c) (refuse t 10)
     (λ _. cond_elim Past (together t) (called t c) (refuse t 10) (λ h. called_past t (few t h).0 (few t h).1 c sized z) (λ _. ten)) (λ _. ten)
   where
     Past : Outcome → Type 0
-    Past o = o.answer ≡ Refused k → LeftApart t c k
+    Past o = o.answer ≡ Err k → LeftApart t c k
 
-    ten : Refused 10 ≡ Refused k → LeftApart t c k
+    ten : ◌≡◌ {A = Answer} (Err 10) (Err k) → LeftApart t c k
     ten e = let is : 10 ≡ k = cc in inr (omega arith)

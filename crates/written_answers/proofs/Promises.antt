@@ -1,15 +1,13 @@
 -- What follows from the definitions of the same name in specs/.
 -- Assumes nothing.
-use Rattle.std.specs.Prelude.{◌≡◌, false, List, ◌++◌, ℕ, drop}
+use Rattle.std.specs.Prelude.{◌≡◌, false, List, ◌++◌, ℕ, drop, Ok, Err}
 use Rattle.std.proofs.Math.Path.{refl, ap}
 use Rattle.std.proofs.Common.{◌∙◌, arith}
 use Rattle.std.proofs.Math.ListN.{take}
-use Rattle.exchange.specs.declared.call.Answer.TheVariants.{Refused}
 use Rattle.exchange.specs.declared.call.Call.{Call}
 use Rattle.exchange.specs.declared.header.Header.{Header}
 use Rattle.exchange.specs.Calls.{Sized}
 use Rattle.exchange.specs.Formats.{HeaderSized}
-use Rattle.realm.specs.declared.header.Opening.TheVariants.{Open}
 use Rattle.realm.specs.Opening.{opening_of}
 use Rattle.realm.proofs.Promises.{new_together}
 use Rattle.realm.specs.Tables.{Tables, Together}
@@ -21,7 +19,6 @@ use Rattle.raw_records.specs.Fit.{Words32}
 use Rattle.raw_records.proofs.Promises.{records_fit}
 use Rattle.raw_records.specs.Raw.{records_of}
 use Rattle.raw_records.specs.Refusals.{own_refusal}
-use Rattle.writer.specs.declared.walk.Filing.TheVariants.{Written}
 use Rattle.writer.specs.Write.{write_outcome, write_of}
 use Rattle.written_walks.proofs.Promises.{written_passes, read_back}
 use Rattle.lines.specs.Lines.{header_line}
@@ -39,7 +36,7 @@ use Rattle.written_answers.specs.Promises.{realm}
 -- ---- one record, on any tables
 
 -- A record that the writer lets pass is not refused with a number from 1 to 5, and with 6 only for what depends on the walk.
-pub public_past : (t : Tables) (c : Call) → Sized c → own_refusal t.realm.n (raw_for c) ≡ 0 → {k : ℕ} → (lent_call t c).answer ≡ Refused k → LeftApart t c k
+pub public_past : (t : Tables) (c : Call) → Sized c → own_refusal t.realm.n (raw_for c) ≡ 0 → {k : ℕ} → (lent_call t c).answer ≡ Err k → LeftApart t c k
 public_past t c sized z e = lent_past t c sized z e
 
 module _ (t : Tables) (w : Together t) (c : Call) (sized : Sized c) where
@@ -52,9 +49,9 @@ module _ (t : Tables) (w : Together t) (c : Call) (sized : Sized c) where
   public_barred n = lent_called t c w ∙ called_barred t (omega (arith, w.rows_hold.room)) (omega (arith, w.terms_hold.room)) c sized n
 
 module _ (g : Header) (fits : HeaderSized g) (words : List ℕ) (w : Words32 words)
-    (buffer : List ℕ) (at count : ℕ) (after : List ℕ) (e : write_of g words buffer at ≡ write_outcome (Written count) after) where
+    (buffer : List ℕ) (at count : ℕ) (after : List ℕ) (e : write_of g words buffer at ≡ write_outcome (Ok count) after) where
   -- Its header opens a realm,
-  pub walk_opens : opening_of g ≡ Open (realm g fits words w buffer at count after e)
+  pub walk_opens : opening_of g ≡ Ok (realm g fits words w buffer at count after e)
   walk_opens = header_opens g fits words w buffer at count after e
 
   -- and none of its records, which are read to the end of the file (`read_back` of `written_walks`), is refused for its own fields.

@@ -1,16 +1,15 @@
 -- A walk of one step and one term, written into a buffer with room before and behind it, and the refusals in their order.
 -- Assumes nothing.
-use Rattle.std.specs.Prelude.{◌≡◌, refl, List, [], ◌∷◌, ◌++◌, ℕ, replicate}
+use Rattle.std.specs.Prelude.{◌≡◌, refl, List, [], ◌∷◌, ◌++◌, ℕ, replicate, Ok, Err}
 use Rattle.marks.specs.Bits.{bit}
 use Rattle.marks.specs.Marks.{is_set}
 use Rattle.realm.specs.Input.{uses_table, in_range, input_refusal}
 use Rattle.exchange.specs.declared.header.Header.{Header}
-use Rattle.exchange.specs.Formats.{formats, row_of}
+use Rattle.exchange.specs.Formats.{formats}
 use Rattle.realm.specs.Opening.{header_fits, header_refusal}
 use Rattle.raw_records.specs.Raw.{raw_by, records_of}
 use Rattle.raw_records.specs.Refusals.{term_refusal, own_refusal}
 use Rattle.fields.specs.Placed.{placed}
-use Rattle.writer.specs.declared.walk.Filing.TheVariants.{Written, Refused}
 use Rattle.writer.specs.File.{header_in_bytes, record_in_bytes, file_of}
 use Rattle.writer.specs.Write.{write_outcome, write_refusal, write_of}
 
@@ -37,28 +36,28 @@ file =
     ∷ 0x54 ∷ 0x4D ∷ 5 ∷ 0 ∷ 15 ∷ 0 ∷ 16 ∷ []
 
 -- 32 bytes from offset 2 on, in a buffer of 35
-pub two_records : write_of (headed 0x4844 3 0) (step ++ term) (replicate 35 7) 2 ≡ write_outcome (Written 32) ((7 ∷ 7 ∷ []) ++ file ++ (7 ∷ []))
-unfolding write_of write_refusal file_of header_in_bytes record_in_bytes records_of raw_by own_refusal term_refusal input_refusal uses_table in_range header_refusal header_fits formats row_of is_set bit placed
+pub two_records : write_of (headed 0x4844 3 0) (step ++ term) (replicate 35 7) 2 ≡ write_outcome (Ok 32) ((7 ∷ 7 ∷ []) ++ file ++ (7 ∷ []))
+unfolding write_of write_refusal file_of header_in_bytes record_in_bytes records_of raw_by own_refusal term_refusal input_refusal uses_table in_range header_refusal header_fits formats is_set bit placed
 two_records = refl
 
 -- one byte short
-pub no_room : write_of (headed 0x4844 3 0) (step ++ term) (replicate 33 7) 2 ≡ write_outcome (Refused 21) (replicate 33 7)
-unfolding write_of write_refusal file_of header_in_bytes record_in_bytes records_of raw_by own_refusal term_refusal input_refusal uses_table in_range header_refusal header_fits formats row_of is_set bit placed
+pub no_room : write_of (headed 0x4844 3 0) (step ++ term) (replicate 33 7) 2 ≡ write_outcome (Err 21) (replicate 33 7)
+unfolding write_of write_refusal file_of header_in_bytes record_in_bytes records_of raw_by own_refusal term_refusal input_refusal uses_table in_range header_refusal header_fits formats is_set bit placed
 no_room = refl
 
 -- an offset past the end, and a step that does not exist: the record comes first
-pub record_first : write_of (headed 0x4844 3 0) (step ++ no_step) (replicate 3 7) 4 ≡ write_outcome (Refused 4) (replicate 3 7)
-unfolding write_of write_refusal file_of header_in_bytes record_in_bytes records_of raw_by own_refusal term_refusal input_refusal uses_table in_range header_refusal header_fits formats row_of is_set bit placed
+pub record_first : write_of (headed 0x4844 3 0) (step ++ no_step) (replicate 3 7) 4 ≡ write_outcome (Err 4) (replicate 3 7)
+unfolding write_of write_refusal file_of header_in_bytes record_in_bytes records_of raw_by own_refusal term_refusal input_refusal uses_table in_range header_refusal header_fits formats is_set bit placed
 record_first = refl
 
 -- and two principals: the header comes before the record
-pub header_first : write_of (headed 0x4844 2 0) (step ++ no_step) (replicate 3 7) 4 ≡ write_outcome (Refused 2) (replicate 3 7)
-unfolding write_of write_refusal file_of header_in_bytes record_in_bytes records_of raw_by own_refusal term_refusal input_refusal uses_table in_range header_refusal header_fits formats row_of is_set bit placed
+pub header_first : write_of (headed 0x4844 2 0) (step ++ no_step) (replicate 3 7) 4 ≡ write_outcome (Err 2) (replicate 3 7)
+unfolding write_of write_refusal file_of header_in_bytes record_in_bytes records_of raw_by own_refusal term_refusal input_refusal uses_table in_range header_refusal header_fits formats is_set bit placed
 header_first = refl
 
 -- a last record cut short
-pub cut_short : write_of (headed 0x4844 3 0) (step ++ 0x544D ∷ []) (replicate 3 7) 4 ≡ write_outcome (Refused 3) (replicate 3 7)
-unfolding write_of write_refusal file_of header_in_bytes record_in_bytes records_of raw_by own_refusal term_refusal input_refusal uses_table in_range header_refusal header_fits formats row_of is_set bit placed
+pub cut_short : write_of (headed 0x4844 3 0) (step ++ 0x544D ∷ []) (replicate 3 7) 4 ≡ write_outcome (Err 3) (replicate 3 7)
+unfolding write_of write_refusal file_of header_in_bytes record_in_bytes records_of raw_by own_refusal term_refusal input_refusal uses_table in_range header_refusal header_fits formats is_set bit placed
 cut_short = refl
 
 -- ---- the marks of change 2 of document 02
@@ -67,16 +66,16 @@ cut_short = refl
 abbrev wide : List ℕ
 wide = 0x48 ∷ 0x57 ∷ 32 ∷ 0x80 ∷ 1 ∷ 0 ∷ 0 ∷ 0 ∷ 0 ∷ 0 ∷ 100 ∷ 0 ∷ 0 ∷ 0 ∷ 10 ∷ []
 
-pub wide_header : write_of (headed 0x4857 32 0x80010000) [] (replicate 16 7) 0 ≡ write_outcome (Written 15) (wide ++ (7 ∷ []))
-unfolding write_of write_refusal file_of header_in_bytes records_of raw_by header_refusal header_fits formats row_of is_set bit placed
+pub wide_header : write_of (headed 0x4857 32 0x80010000) [] (replicate 16 7) 0 ≡ write_outcome (Ok 15) (wide ++ (7 ∷ []))
+unfolding write_of write_refusal file_of header_in_bytes records_of raw_by header_refusal header_fits formats is_set bit placed
 wide_header = refl
 
 -- the same under HD, whose limit is 16
-pub too_many : write_of (headed 0x4844 32 0x80010000) [] (replicate 16 7) 0 ≡ write_outcome (Refused 2) (replicate 16 7)
-unfolding write_of write_refusal file_of header_in_bytes records_of raw_by header_refusal header_fits formats row_of is_set bit placed
+pub too_many : write_of (headed 0x4844 32 0x80010000) [] (replicate 16 7) 0 ≡ write_outcome (Err 2) (replicate 16 7)
+unfolding write_of write_refusal file_of header_in_bytes records_of raw_by header_refusal header_fits formats is_set bit placed
 too_many = refl
 
 -- a mark that is not known, whatever comes with it
-pub no_mark : write_of (headed 0x4858 2 1) no_step (replicate 3 7) 4 ≡ write_outcome (Refused 1) (replicate 3 7)
-unfolding write_of write_refusal file_of header_in_bytes record_in_bytes records_of raw_by own_refusal term_refusal input_refusal uses_table in_range header_refusal header_fits formats row_of is_set bit placed
+pub no_mark : write_of (headed 0x4858 2 1) no_step (replicate 3 7) 4 ≡ write_outcome (Err 1) (replicate 3 7)
+unfolding write_of write_refusal file_of header_in_bytes record_in_bytes records_of raw_by own_refusal term_refusal input_refusal uses_table in_range header_refusal header_fits formats is_set bit placed
 no_mark = refl

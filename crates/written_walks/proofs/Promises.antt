@@ -3,7 +3,7 @@
 -- records and refusals of `raw_records`); these are laws of `write_of`. What the engine then answers to the records is in
 -- `written_answers`.
 -- Assumes nothing.
-use Rattle.std.specs.Prelude.{◌≡◌, List, map, ℕ, ◌+◌, ◌≤◌, length, take, drop}
+use Rattle.std.specs.Prelude.{◌≡◌, List, map, ℕ, ◌+◌, ◌≤◌, length, take, drop, Ok, Err}
 use Rattle.std.proofs.Common.{sym, subst}
 use Rattle.exchange.specs.declared.call.Call.{Call}
 use Rattle.exchange.specs.declared.header.Header.{Header}
@@ -17,7 +17,6 @@ use Rattle.raw_records.proofs.Fit.{records_fit}
 use Rattle.raw_records.specs.Raw.{records_of}
 use Rattle.raw_records.specs.Refusals.{records_refusal}
 use Rattle.fields.specs.Placed.{placed}
-use Rattle.writer.specs.declared.walk.Filing.TheVariants.{Written, Refused}
 use Rattle.writer.specs.Write.{write_outcome, write_of, WalkPasses}
 use Rattle.written_walks.specs.ReadBack.{ReadsAs}
 use Rattle.written_walks.proofs.ReadBack.{file_back, written_again}
@@ -29,12 +28,12 @@ use Rattle.written_walks.proofs.Stands.{walk_stands, file_at, before_kept, behin
 
 -- "Refused, with every byte of the buffer kept"
 pub refused_kept : (g : Header) (words buffer : List ℕ) (at number : ℕ) (after : List ℕ)
-    → write_of g words buffer at ≡ write_outcome (Refused number) after → after ≡ buffer
+    → write_of g words buffer at ≡ write_outcome (Err number) after → after ≡ buffer
 refused_kept g words buffer at number after e = stands.refused_kept g words buffer at number after e
 
 -- ---- a walk that was written
 
-module _ (g : Header) (words buffer : List ℕ) (at count : ℕ) (after : List ℕ) (e : write_of g words buffer at ≡ write_outcome (Written count) after) where
+module _ (g : Header) (words buffer : List ℕ) (at count : ℕ) (after : List ℕ) (e : write_of g words buffer at ≡ write_outcome (Ok count) after) where
   it_stands : WalkStands g words buffer at count after
   it_stands = walk_stands g words buffer at count after e
 
@@ -61,5 +60,5 @@ module _ (g : Header) (words buffer : List ℕ) (at count : ℕ) (after : List �
 -- by their own fields
 pub write_back : (bytes : List ℕ) → Bytes bytes → (g : Header) (calls : List Call) → ReadsAs bytes g calls
     → header_refusal g ≡ 0 → records_refusal g.n (map raw_for calls) ≡ 0 → (buffer : List ℕ) (at : ℕ) → at + length bytes ≤ length buffer
-    → write_of g (words_for calls) buffer at ≡ write_outcome (Written (length bytes)) (placed buffer at bytes)
+    → write_of g (words_for calls) buffer at ≡ write_outcome (Ok (length bytes)) (placed buffer at bytes)
 write_back bytes b g calls r fits own buffer at room = written_again bytes b g calls r buffer at fits own room

@@ -1,6 +1,6 @@
 -- What follows from the definitions of the same name in specs/.
 -- Assumes nothing.
-use Rattle.std.specs.Prelude.{◌≡◌, refl, true, length}
+use Rattle.std.specs.Prelude.{◌≡◌, Result, Ok, refl, true, length, Option, Some, None}
 use Rattle.std.proofs.Common.{sym, ◌∙◌, arith, length-drop, pow_mono, drop-cons}
 use Rattle.std.proofs.Math.Path.{ap}
 use mathlib.Core.List.{List, [], ◌∷◌, ◌++◌, map}
@@ -13,14 +13,11 @@ use Rattle.exchange.specs.declared.header.Flags.{Flags}
 use Rattle.exchange.specs.declared.header.Flags.TheVariants.{Bits16, Bits32}
 use Rattle.exchange.specs.declared.header.Format.{Format}
 use Rattle.exchange.specs.declared.header.Header.{Header}
-use Rattle.exchange.specs.declared.header.Lookup.TheVariants.{Found}
 use Rattle.exchange.specs.Formats.{format_of}
 use Rattle.exchange.proofs.Laws.Formats.{bits, Sound, format_found}
 use Rattle.realm.specs.Header.{HeaderTaken}
 use Rattle.realm.proofs.HeaderLaws.{flags_small}
 use Rattle.realm.specs.Opening.{header_refusal}
-use Rattle.records.specs.declared.header.Heading.{Heading}
-use Rattle.records.specs.declared.header.Heading.TheVariants as header
 use Rattle.records.specs.Fields.{Bytes, byte, number16, number32, begins}
 use Rattle.records.proofs.Fields.{begins_here, begins_other, begins_mark, begins_whole, drop_bytes}
 use Rattle.records.specs.Headers.{max_file, lives_at, format_bytes, header_width, fields_of, header_of}
@@ -33,7 +30,7 @@ use Rattle.records.specs.Calls.{Calls, ended, broken, then, onward}
 use Rattle.records.proofs.Calls.{calls_are, calls_end}
 use Rattle.records.specs.Calls as reading
 use Rattle.raw_records.specs.declared.raw.RawRecord.{RawRecord}
-use Rattle.raw_records.specs.declared.raw.RawRecord.TheVariants.{Term, Step, Unknown}
+use Rattle.raw_records.specs.declared.raw.RawRecord.TheVariants.{Term, Step}
 use Rattle.raw_records.specs.Calls.{calls_from, raw_for, words_for, RawSized, AllRawSized}
 use Rattle.raw_records.proofs.Calls.{records_for}
 use Rattle.raw_records.specs.Refusals.{records_refusal}
@@ -43,7 +40,6 @@ use Rattle.writer.specs.File.{header_as, header_in_bytes, record_in_bytes, recor
 use Rattle.writer.proofs.Progress.{header_is, header_long}
 use Rattle.writer.specs.Write.{write_outcome, by_refusal, write_refusal, write_of, WalkPasses}
 use Rattle.writer.proofs.Write.{file_length, passes_zero}
-use Rattle.writer.specs.declared.walk.Filing.TheVariants.{Written}
 use Rattle.written_walks.specs.ReadBack.{ReadsAs}
 
 -- ---- numbers
@@ -63,37 +59,37 @@ back8 x h = omega arith
 first_call : (bytes : List ℕ) (c : Call) (width : ℕ) → whole c width ≡ front_of bytes → reading.calls_of bytes ≡ then c (reading.calls_of (drop width bytes))
 first_call bytes c width e = calls_are bytes ∙ ap (λ (f : Front). onward f (λ w. reading.calls_of (drop w bytes))) (sym e)
 
-term_back : (kind l r : ℕ) (rest : List ℕ) → RawSized (Term kind l r)
-    → reading.calls_of (record_in_bytes (Term kind l r) ++ rest) ≡ then (call.Term kind l r) (reading.calls_of rest)
+term_back : (kind l r : ℕ) (rest : List ℕ) → RawSized (Some (Term kind l r))
+    → reading.calls_of (record_in_bytes (Some (Term kind l r)) ++ rest) ≡ then (call.Term kind l r) (reading.calls_of rest)
 unfolding record_in_bytes
 term_back kind l r rest f =
-    let bytes : List ℕ = record_in_bytes (Term kind l r) ++ rest in
+    let bytes : List ℕ = record_in_bytes (Some (Term kind l r)) ++ rest in
     first_call bytes (call.Term kind l r) 7
     (front_term bytes (omega arith) (begins_here term_mark 7 bytes (omega arith) refl) (rw (back8 kind f.0, back16 l f.1, back16 r f.2)))
 
-step_back : (step run a b m t : ℕ) (rest : List ℕ) → RawSized (Step step run a b m t)
-    → reading.calls_of (record_in_bytes (Step step run a b m t) ++ rest) ≡ then (call.Step step run a b m t) (reading.calls_of rest)
+step_back : (step run a b m t : ℕ) (rest : List ℕ) → RawSized (Some (Step step run a b m t))
+    → reading.calls_of (record_in_bytes (Some (Step step run a b m t)) ++ rest) ≡ then (call.Step step run a b m t) (reading.calls_of rest)
 unfolding record_in_bytes
 step_back step run a b m t rest f =
-    let bytes : List ℕ = record_in_bytes (Step step run a b m t) ++ rest in
+    let bytes : List ℕ = record_in_bytes (Some (Step step run a b m t)) ++ rest in
     first_call bytes (call.Step step run a b m t) 12
     (front_step bytes (omega arith) (begins_other term_mark 7 bytes (omega arith) (λ z. omega arith)) (begins_here step_mark 12 bytes (omega arith) refl)
     (rw (back8 step f.0, back8 run f.1, back8 a f.2, back8 b f.3, back16 m f.4, back32 t f.5)))
 
-body_back : (raws : List RawRecord) → AllRawSized raws → reading.calls_of (records_in_bytes raws) ≡ record { calls = calls_from raws; ending = ended }
+body_back : (raws : List (Option RawRecord)) → AllRawSized raws → reading.calls_of (records_in_bytes raws) ≡ record { calls = calls_from raws; ending = ended }
 body_back [] f = calls_end [] 0 (omega arith)
-body_back (Term kind l r ∷ raws) f = term_back kind l r (records_in_bytes raws) f.0 ∙ ap (then (call.Term kind l r)) (body_back raws f.1)
-body_back (Step step run a b m t ∷ raws) f = step_back step run a b m t (records_in_bytes raws) f.0 ∙ ap (then (call.Step step run a b m t)) (body_back raws f.1)
-body_back (Unknown ∷ raws) f = absurd f.0
+body_back (Some (Term kind l r) ∷ raws) f = term_back kind l r (records_in_bytes raws) f.0 ∙ ap (then (call.Term kind l r)) (body_back raws f.1)
+body_back (Some (Step step run a b m t) ∷ raws) f = step_back step run a b m t (records_in_bytes raws) f.0 ∙ ap (then (call.Step step run a b m t)) (body_back raws f.1)
+body_back (None ∷ raws) f = absurd f.0
 
 -- the values are read from where they were written
 fields_back : (width : Flags) (mark most rules : ℕ) (g : Header) (rest : List ℕ) → mark ≡ g.mark → g.flags < 2 ^ bits width → g.ls < 2 ^ 32 → g.la < 2 ^ 32
     → let f : Format = record { mark = mark; flags = width; most = most; rules = rules } in
-    fields_of f (header_as (Found f) g ++ rest) ≡ g
+    fields_of f (header_as (Some f) g ++ rest) ≡ g
 fields_back Bits16 mark most rules g rest e hf hs ha = rw (e, back16 g.flags hf, back32 g.ls hs, back32 g.la ha)
 fields_back Bits32 mark most rules g rest e hf hs ha = rw (e, back32 g.flags hf, back32 g.ls hs, back32 g.la ha)
 
-module _ (g : Header) (raws : List RawRecord) (t : HeaderTaken g) where
+module _ (g : Header) (raws : List (Option RawRecord)) (t : HeaderTaken g) where
   abbrev f : Format
   f = t.format
 
@@ -101,12 +97,12 @@ module _ (g : Header) (raws : List RawRecord) (t : HeaderTaken g) where
   row = format_found g.mark f t.known
 
   -- the file, in the layout of its mark
-  laid : file_of g raws ≡ header_as (Found f) g ++ records_in_bytes raws
+  laid : file_of g raws ≡ header_as (Some f) g ++ records_in_bytes raws
   unfolding file_of
-  laid = ap (λ (front : List ℕ). front ++ records_in_bytes raws) (sym (header_is g (Found f) t.known))
+  laid = ap (λ (front : List ℕ). front ++ records_in_bytes raws) (sym (header_is g (Some f) t.known))
 
-  file_long : length (file_of g raws) ≡ format_bytes (Found f) + length (records_in_bytes raws)
-  file_long = file_length g raws ∙ ap (λ (k : ℕ). k + length (records_in_bytes raws)) (width_is g.mark (Found f) t.known)
+  file_long : length (file_of g raws) ≡ format_bytes (Some f) + length (records_in_bytes raws)
+  file_long = file_length g raws ∙ ap (λ (k : ℕ). k + length (records_in_bytes raws)) (width_is g.mark (Some f) t.known)
 
   mark_first : number16 (file_of g raws) 0 ≡ g.mark
   mark_first = ap (λ (bytes : List ℕ). number16 bytes 0) laid ∙ back16 g.mark (omega (arith, row.0, row.1.mark_fits))
@@ -116,10 +112,10 @@ module _ (g : Header) (raws : List RawRecord) (t : HeaderTaken g) where
       let within : g.n ≤ bits f.flags = omega (arith, t.within, row.1.flag_each) in
       omega (arith, flags_small g t, pow_mono within)
 
-  header_back : g.ls < 2 ^ 32 → g.la < 2 ^ 32 → length (file_of g raws) ≤ max_file → header_of (file_of g raws) ≡ header.Read g
+  header_back : g.ls < 2 ^ 32 → g.la < 2 ^ 32 → length (file_of g raws) ≤ max_file → header_of (file_of g raws) ≡ Ok g
   header_back hs ha short =
       headers_laws.fields_by (file_of g raws) short f (ap format_of mark_first ∙ t.known) (omega (arith, file_long))
-      ∙ ap header.Read (ap (fields_of f) laid ∙ fields_back f.flags f.mark f.most f.rules g (records_in_bytes raws) row.0 flags_fit hs ha)
+      ∙ ap Ok (ap (fields_of f) laid ∙ fields_back f.flags f.mark f.most f.rules g (records_in_bytes raws) row.0 flags_fit hs ha)
 
   calls_back : AllRawSized raws → reading.calls_of (drop (header_width g.mark) (file_of g raws)) ≡ record { calls = calls_from raws; ending = ended }
   unfolding file_of
@@ -227,7 +223,7 @@ module _ (bytes : List ℕ) (b : Bytes bytes) where
 
   header_again : (width : Flags) (mark most rules : ℕ) → number16 bytes 0 ≡ mark → lives_at width + 8 ≤ length bytes
       → let f : Format = record { mark = mark; flags = width; most = most; rules = rules } in
-      header_as (Found f) (fields_of f bytes) ++ drop (lives_at width + 8) bytes ≡ bytes
+      header_as (Some f) (fields_of f bytes) ++ drop (lives_at width + 8) bytes ≡ bytes
   header_again Bits16 mark most rules e h =
       ap (λ (front : List ℕ). front ++ drop 13 bytes) (parts (byte bytes 2) (mark_back mark e) (field16 3) (field32 5) (field32 9)) ∙ spanned bytes 0 13 h
   header_again Bits32 mark most rules e h =
@@ -270,17 +266,17 @@ body_again bytes b e = again_within (length bytes) bytes (omega arith) b e
 
 -- so is a whole file
 module _ (bytes : List ℕ) (b : Bytes bytes) (g : Header) where
-  found_again : (h : Heading) → headers.Finds bytes h → h ≡ header.Read g → header_in_bytes g ++ drop (header_width g.mark) bytes ≡ bytes
+  found_again : (h : Result Header ℕ) → headers.Finds bytes h → h ≡ Ok g → header_in_bytes g ++ drop (header_width g.mark) bytes ≡ bytes
   found_again h (headers.too_long l) e = let z : ◌≡◌ {A = ℕ} 0 1 = cc in absurd (omega arith)
   found_again h (headers.no_mark s m) e = let z : ◌≡◌ {A = ℕ} 0 1 = cc in absurd (omega arith)
   found_again h (headers.cut_short s f m l) e = let z : ◌≡◌ {A = ℕ} 0 1 = cc in absurd (omega arith)
   found_again h (headers.a_header s f m l) e =
       let same : fields_of f bytes ≡ g = cc in
       let mark : f.mark ≡ number16 bytes 0 = (format_found (number16 bytes 0) f m).0 in
-      let known : format_of f.mark ≡ Found f = ap format_of mark ∙ m in
+      let known : format_of f.mark ≡ Some f = ap format_of mark ∙ m in
       ap (λ (x : Header). header_in_bytes x ++ drop (header_width x.mark) bytes) (sym same)
-      ∙ ap (λ (front : List ℕ). front ++ drop (header_width f.mark) bytes) (sym (header_is (fields_of f bytes) (Found f) known))
-      ∙ ap (λ (k : ℕ). header_as (Found f) (fields_of f bytes) ++ drop k bytes) (width_is f.mark (Found f) known)
+      ∙ ap (λ (front : List ℕ). front ++ drop (header_width f.mark) bytes) (sym (header_is (fields_of f bytes) (Some f) known))
+      ∙ ap (λ (k : ℕ). header_as (Some f) (fields_of f bytes) ++ drop k bytes) (width_is f.mark (Some f) known)
       ∙ header_again bytes b f.flags f.mark f.most f.rules (sym mark) l
 
   pub file_again : {calls : List Call} → ReadsAs bytes g calls → file_of g (map raw_for calls) ≡ bytes
@@ -300,9 +296,9 @@ module _ (bytes : List ℕ) (b : Bytes bytes) (g : Header) (calls : List Call) (
       record { short = rw is (headers_laws.header_fields bytes g r.header).most; header = fits; records = own; room = rw is room }
 
   pub written_again : header_refusal g ≡ 0 → records_refusal g.n (map raw_for calls) ≡ 0 → at + length bytes ≤ length buffer
-      → write_of g (words_for calls) buffer at ≡ write_outcome (Written (length bytes)) (placed buffer at bytes)
+      → write_of g (words_for calls) buffer at ≡ write_outcome (Ok (length bytes)) (placed buffer at bytes)
   unfolding write_of
   written_again fits own room =
-      ap (λ (raws : List RawRecord). by_refusal (write_refusal g raws (length buffer) at) buffer at (file_of g raws)) (records_for calls)
+      ap (λ (raws : List (Option RawRecord)). by_refusal (write_refusal g raws (length buffer) at) buffer at (file_of g raws)) (records_for calls)
       ∙ ap (λ (k : ℕ). by_refusal k buffer at (file_of g (map raw_for calls))) (passes_zero g (map raw_for calls) (length buffer) at (passes fits own room))
-      ∙ ap (λ (file : List ℕ). write_outcome (Written (length file)) (placed buffer at file)) (file_again bytes b g r)
+      ∙ ap (λ (file : List ℕ). write_outcome (Ok (length file)) (placed buffer at file)) (file_again bytes b g r)

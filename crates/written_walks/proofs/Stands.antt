@@ -1,18 +1,17 @@
 -- What follows from the definitions of the same name in specs/.
 -- Assumes nothing.
-use Rattle.std.specs.Prelude.{◌≡◌, refl, List, ℕ, zero, suc, ◌+◌, ◌≤◌, length, take, drop}
+use Rattle.std.specs.Prelude.{◌≡◌, refl, List, ℕ, zero, suc, ◌+◌, ◌≤◌, length, take, drop, Ok, Err}
 use Rattle.std.proofs.Common.{sym, ap, ◌∙◌, arith}
 use Rattle.exchange.specs.declared.header.Header.{Header}
 use Rattle.raw_records.specs.Raw.{records_of}
 use Rattle.fields.specs.Placed.{placed}
 use Rattle.fields.proofs.Placed.{placed_before, placed_there, placed_behind}
-use Rattle.writer.specs.declared.walk.Filing.TheVariants.{Written, Refused}
 use Rattle.writer.specs.File.{file_of}
 use Rattle.writer.specs.Write.{WriteOutcome, write_outcome, write_refusal, by_refusal, write_of}
 use Rattle.writer.proofs.Write.{zero_passes}
 use Rattle.written_walks.specs.Stands.{WalkStands}
 
-counted : (k : ℕ) (buffer : List ℕ) (at : ℕ) (file : List ℕ) (count : ℕ) (after : List ℕ) → by_refusal k buffer at file ≡ write_outcome (Written count) after
+counted : (k : ℕ) (buffer : List ℕ) (at : ℕ) (file : List ℕ) (count : ℕ) (after : List ℕ) → by_refusal k buffer at file ≡ write_outcome (Ok count) after
     → (k ≡ 0) × (count ≡ length file) × (after ≡ placed buffer at file)
 counted zero buffer at file count after e =
     let answers = ap (λ (o : WriteOutcome). o.answer) e in
@@ -23,7 +22,7 @@ counted (suc k) buffer at file count after e =
     let z : ◌≡◌ {A = ℕ} 0 1 = cc in
     absurd (omega arith)
 
-kept_by : (k : ℕ) (buffer : List ℕ) (at : ℕ) (file : List ℕ) (number : ℕ) (after : List ℕ) → by_refusal k buffer at file ≡ write_outcome (Refused number) after → after ≡ buffer
+kept_by : (k : ℕ) (buffer : List ℕ) (at : ℕ) (file : List ℕ) (number : ℕ) (after : List ℕ) → by_refusal k buffer at file ≡ write_outcome (Err number) after → after ≡ buffer
 kept_by zero buffer at file number after e =
     let answers = ap (λ (o : WriteOutcome). o.answer) e in
     let z : ◌≡◌ {A = ℕ} 0 1 = cc in
@@ -34,13 +33,13 @@ module _ (g : Header) (words buffer : List ℕ) (at : ℕ) where
   abbrev file : List ℕ
   file = file_of g (records_of words)
 
-  pub walk_stands : (count : ℕ) (after : List ℕ) → write_of g words buffer at ≡ write_outcome (Written count) after → WalkStands g words buffer at count after
+  pub walk_stands : (count : ℕ) (after : List ℕ) → write_of g words buffer at ≡ write_outcome (Ok count) after → WalkStands g words buffer at count after
   unfolding write_of
   walk_stands count after e =
       let c = counted (write_refusal g (records_of words) (length buffer) at) buffer at file count after e in
       record { passed = zero_passes g (records_of words) (length buffer) at c.0; count_is = c.1; after_is = c.2 }
 
-  pub refused_kept : (number : ℕ) (after : List ℕ) → write_of g words buffer at ≡ write_outcome (Refused number) after → after ≡ buffer
+  pub refused_kept : (number : ℕ) (after : List ℕ) → write_of g words buffer at ≡ write_outcome (Err number) after → after ≡ buffer
   unfolding write_of
   refused_kept number after e = kept_by (write_refusal g (records_of words) (length buffer) at) buffer at file number after e
 

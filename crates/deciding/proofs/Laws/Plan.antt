@@ -1,7 +1,7 @@
 -- What is sent: nothing, one message, or the reply and the ticket apart. A draft can be sent where the fields of its messages are in
 -- range, and what is sent then are these messages.
 -- Assumes nothing.
-use Rattle.std.specs.Prelude.{◌≡◌, refl, true, List, [], ◌∷◌, ℕ, ◌<◌, length}
+use Rattle.std.specs.Prelude.{◌≡◌, refl, Option, Some, None, true, List, [], ◌∷◌, ℕ, ◌<◌, length}
 use Rattle.std.proofs.Common.{sym, ap, ap₂, ◌∙◌, subst, arith}
 use Rattle.drafts.specs.Draft.{draft_message, draft_fits}
 use Rattle.terms.specs.Meaning.{message_at}
@@ -14,7 +14,6 @@ use Rattle.kerberos.specs.Messages.{authenticator}
 use Rattle.layouts.specs.Drafts.{REQUEST_ROOT, REPLY_ROOT, TICKET_ROOT, BESIDE_ROOT, INSIDE_ROOT, AUTHENTICATOR_ROOT, PRESENTED_ROOT, CONFIRMATION_ROOT, KEY_ROOT, presented_draft}
 use Rattle.layouts.proofs.Promises.{request_at, reply_at, ticket_at, beside_at, inside_at, authenticator_at, presented_at, confirmation_at, key_at}
 use Rattle.layouts.proofs.Promises.{request_fits, issue_fits, inside_fits, presented_fits, confirmation_fits, key_fits_lem}
-use Rattle.sending.specs.declared.Marks.TheVariants as marks
 use Rattle.sending.specs.declared.Prepared.{Prepared}
 use Rattle.sending.proofs.Promises.{send_once, nothing_planned}
 use Rattle.sending.specs.Send.{AllWrites, Plannable, PlanFor, send_of}
@@ -23,8 +22,7 @@ use Rattle.decisions.specs.declared.Sends.TheVariants.{Request, Issue, Presented
 use Rattle.decisions.specs.declared.Sends.TheVariants as sending
 use Rattle.decisions.specs.Effects.{messages_of}
 use Rattle.deciding.specs.declared.plan.Roots.{Roots}
-use Rattle.deciding.specs.declared.plan.Roots.TheVariants.{At, Nothing}
-use Rattle.deciding.specs.Layout.{issue_roots, presented_roots, roots_of, draft_of, CanSend}
+use Rattle.deciding.specs.Layout.{roots_of, draft_of, CanSend}
 
 -- what the code plans: the messages of two nodes
 abbrev both : List ℕ → List Node → (first last : ℕ) → List Message
@@ -37,9 +35,9 @@ module _ (ts : List ℕ) (count : ℕ) where
     can : Plannable ts count draft first last
     same : (ws : List ℕ) → send_of ts ws count (both ts draft first last) ≡ send_of ts ws count ms
 
-  abbrev Laid : Sends → Roots → Type 0
-  Laid x (At first last) = Says (messages_of ts x) (draft_of x) first last
-  Laid x Nothing = messages_of ts x ≡ []
+  abbrev Laid : Sends → Option Roots → Type 0
+  Laid x (Some r) = Says (messages_of ts x) (draft_of x) r.first r.last
+  Laid x None = messages_of ts x ≡ []
 
   module _ {x : Sends} (s : CanSend ts count x) {draft : List Node} (fits : draft_fits s.n count draft ≡ true) where
     plannable : (first last : ℕ) → first < 16 → last < 16 → Plannable ts count draft first last
@@ -58,7 +56,7 @@ module _ (ts : List ℕ) (count : ℕ) where
   in_draft {a = a} {ta} {k} {x} s w = presented_fits s.n count a ta k x w.0.0 (omega (arith, w.0.1)) w.1 s.carries
 
   -- step 3, by the form
-  issued : (f : Form) (k a b t n : ℕ) → CanSend ts count (Issue f k a b t n) → Laid (Issue f k a b t n) (issue_roots f)
+  issued : (f : Form) (k a b t n : ℕ) → CanSend ts count (Issue f k a b t n) → Laid (Issue f k a b t n) (roots_of (Issue f k a b t n))
   issued Parallel k a b t n s =
       let w = s.writes.0 in
       let fits = issue_fits s.n count k a b t n w.0.0 w.1 w.0.1.0 (omega (arith, w.0.1.1.0)) w.0.1.1.1 in
@@ -76,7 +74,7 @@ module _ (ts : List ℕ) (count : ℕ) where
       one s fits INSIDE_ROOT (omega arith) _ s.writes (inside_at (message_at ts) k a b t n)
 
   -- step 4, by the form: in each the authenticator {a, Ta}K is in range
-  handed : (f : Form) (a ta k x : ℕ) → CanSend ts count (Presented f a ta k x) → Laid (Presented f a ta k x) (presented_roots f)
+  handed : (f : Form) (a ta k x : ℕ) → CanSend ts count (Presented f a ta k x) → Laid (Presented f a ta k x) (roots_of (Presented f a ta k x))
   handed Parallel a ta k x s = one s (in_draft s s.writes.0) AUTHENTICATOR_ROOT (omega arith) _ s.writes (authenticator_at (message_at ts) a ta k x)
   handed Kerberos5 a ta k x s = one s (in_draft s s.writes.0.1) PRESENTED_ROOT (omega arith) _ s.writes (presented_at (message_at ts) a ta k x)
   handed Kerberos4 a ta k x s = one s (in_draft s s.writes.0.1) PRESENTED_ROOT (omega arith) _ s.writes (presented_at (message_at ts) a ta k x)
@@ -96,23 +94,23 @@ module _ (ts : List ℕ) (count : ℕ) where
 -- ---- once the roots are known
 
 module _ {ts : List ℕ} {count : ℕ} {x : Sends} (s : CanSend ts count x) where
-  pub none_planned : roots_of x ≡ Nothing → {words : List ℕ} → length words ≡ 32 → PlanFor ts count (messages_of ts x) words (record { count = 0; marks = marks.Nothing })
+  pub none_planned : roots_of x ≡ None → {words : List ℕ} → length words ≡ 32 → PlanFor ts count (messages_of ts x) words (record { count = 0; marks = None })
   none_planned h places =
       let none : messages_of ts x ≡ [] = subst (Laid ts count x) h (laid_out ts count x s) in
       rw none (nothing_planned ts count s.table.size s.table.room places)
 
-  module _ {first last : ℕ} (h : roots_of x ≡ At first last) {draft : List Node} (laid : draft ≡ draft_of x) where
-    says : Says ts count (messages_of ts x) (draft_of x) first last
+  module _ {r : Roots} (h : roots_of x ≡ Some r) {draft : List Node} (laid : draft ≡ draft_of x) where
+    says : Says ts count (messages_of ts x) (draft_of x) r.first r.last
     says = subst (Laid ts count x) h (laid_out ts count x s)
 
-    pub draft_plannable : Plannable ts count draft first last
-    draft_plannable = subst (λ (d : List Node). Plannable ts count d first last) (sym laid) says.can
+    pub draft_plannable : Plannable ts count draft r.first r.last
+    draft_plannable = subst (λ (d : List Node). Plannable ts count d r.first r.last) (sym laid) says.can
 
-    pub draft_planned : {words : List ℕ} {r : Prepared} → PlanFor ts count (both ts draft first last) words r → PlanFor ts count (messages_of ts x) words r
+    pub draft_planned : {words : List ℕ} {p : Prepared} → PlanFor ts count (both ts draft r.first r.last) words p → PlanFor ts count (messages_of ts x) words p
     draft_planned p =
         record {
           places = p.places;
           few = p.few;
           marks = p.marks;
-          sends = λ ws. p.sends ws ∙ ap (λ (d : List Node). send_of ts ws count (both ts d first last)) laid ∙ says.same ws;
+          sends = λ ws. p.sends ws ∙ ap (λ (d : List Node). send_of ts ws count (both ts d r.first r.last)) laid ∙ says.same ws;
         }

@@ -1,6 +1,6 @@
 -- The verdict from what is met: a step that has met what its row of the step table asks for is decided to be taken, with that effect.
 -- Assumes nothing.
-use Rattle.std.specs.Prelude.{ℕ, ◌+◌, ◌<◌, ◌≤◌, ◌≡◌, Bool, false, ◌&&◌, ◌||◌, ◌↔◌, ltb, leb}
+use Rattle.std.specs.Prelude.{ℕ, ◌+◌, ◌<◌, ◌≤◌, ◌≡◌, Bool, false, ◌&&◌, ◌||◌, ◌↔◌, ltb, leb, Ok, Err}
 use Rattle.std.proofs.Math.Path.{refl, ap}
 use Rattle.std.proofs.Common.{sym, ◌∙◌, subst, arith}
 use Rattle.std.proofs.Math.Bool.{true, not}
@@ -38,10 +38,8 @@ use Rattle.replay.specs.declared.entry.Entry.{Entry}
 use Rattle.conditions.specs.Conditions.{derivable_at, ticket_lives, admission}
 use Rattle.conditions.proofs.Promises.{admission_ahead, admission_remembers}
 use Rattle.decisions.specs.declared.Effect.{Effect}
-use Rattle.decisions.specs.declared.Verdict.{Verdict}
-use Rattle.decisions.specs.declared.Verdict.TheVariants.{Takes, Refused}
 use Rattle.decisions.specs.Effects.{issuing, authenticating, accepting, finishing, messages_of}
-use Rattle.decisions.specs.Decision.{need, on_request, issues, on_grant, authenticates, on_delivery, takes, on_confirmation, finishes}
+use Rattle.decisions.specs.Decision.{need, on_request, issues, on_grant, authenticates, on_delivery, takes, on_confirmation, finishes, Verdict}
 use Rattle.decisions.specs.Decision.{opens_run, ticks, queries, step_of, decided, roomed, decision}
 use Rattle.messages.proofs.Parts.{number_here}
 use Rattle.decisions.specs.Laws.Took.{row_at, form_at, Meets, Brings, PassesOn, Timely, Admits, Took, took1, took2, took3, took4, took5, took6, took7, took8, took9, took10}
@@ -111,11 +109,11 @@ module _ (t : Tables) (fits : Together t) where
   -- ---- the steps that take a message
 
   issues_on : (m a b n : ℕ) → Brings t m (request a b n) → Apart a b → t.realm.runs < 64
-      → issues t.realm t.terms t.wire m ≡ Takes (issuing t.realm.clock (form_at t) t.realm.runs a b n)
+      → issues t.realm t.terms t.wire m ≡ Ok (issuing t.realm.clock (form_at t) t.realm.runs a b n)
   unfolding issues
   issues_on m a b n k p room =
       met (ltb t.realm.runs 64) _ _ (lt-ltb t.realm.runs 64 room)
-      (ap (on_request t.realm t.terms t.wire m) ((is_request (message_at t.terms m) a b n).1 k.is)
+      (ap (on_request t.realm t.terms t.wire m) ((is_request (message_at t.terms m) (record { a = a; b = b; n = n })).1 k.is)
       ∙ met (not (eqb a 0) && not (eqb b 0) && not (eqb a b)) _ _ apart (met (derivable_at t.realm t.terms t.wire m) _ _ (derivable m k) refl))
     where
       apart : (not (eqb a 0) && not (eqb b 0) && not (eqb a b)) ≡ true
@@ -123,21 +121,21 @@ module _ (t : Tables) (fits : Together t) where
 
   authenticates_on : (r m k ts x : ℕ) → Brings t m (grant (form_at t) k (row_at t r).b ts r (row_at t r).a (message_at t.terms x)) → PassesOn t m x
       → t.realm.clock < ts + t.realm.ls
-      → authenticates t.realm t.terms t.wire r (row_at t r) m ≡ Takes (authenticating t.realm.clock (form_at t) r (row_at t r).a (row_at t r).b k ts x)
+      → authenticates t.realm t.terms t.wire r (row_at t r) m ≡ Ok (authenticating t.realm.clock (form_at t) r (row_at t r).a (row_at t r).b k ts x)
   unfolding authenticates
   authenticates_on r m k ts x d c l =
       ap (on_grant t.realm t.terms t.wire r (row_at t r) m)
-      ((is_grant (message_at t.terms m) (form_at t) k (row_at t r).b ts r (row_at t r).a (message_at t.terms x)).1 (d.is, c.is))
+      ((is_grant (message_at t.terms m) (form_at t) (record { k = k; b = (row_at t r).b; ts = ts; n = r; a = (row_at t r).a; x = message_at t.terms x })).1 (d.is, c.is))
       ∙ met (eqb (row_at t r).b (row_at t r).b && eqb r r && eqb (row_at t r).a (row_at t r).a) _ _ (own (row_at t r).b (row_at t r).a)
       (met (derivable_at t.realm t.terms t.wire m) _ _ (derivable m d) (met (ticket_lives t.realm ts) _ _ (lt-ltb _ _ l)
-      (ap (λ (i : ℕ). Takes (authenticating t.realm.clock (form_at t) r (row_at t r).a (row_at t r).b k ts i)) (number_here fits.terms_hold x c.below))))
+      (ap (λ (i : ℕ). Ok (authenticating t.realm.clock (form_at t) r (row_at t r).a (row_at t r).b k ts i)) (number_here fits.terms_hold x c.below))))
     where
       own : (b a : ℕ) → (eqb b b && eqb r r && eqb a a) ≡ true
       own b a = rw (equal b, equal r, equal a)
 
   -- step 5 with a delivery for the run: `admission` decides
   abbrev admitting : (r k ts ta : ℕ) → ℕ → Verdict
-  admitting r k ts ta number = need (eqb number 0) number (Takes (accepting t.realm.clock r (row_at t r).a (row_at t r).b k ts ta))
+  admitting r k ts ta number = need (eqb number 0) number (Ok (accepting t.realm.clock r (row_at t r).a (row_at t r).b k ts ta))
 
   takes_on : (r m k ts ta : ℕ) → Brings t m (pair (ticket k (row_at t r).a ts (row_at t r).b) (authenticator (row_at t r).a ta k))
       → takes t.realm t.terms t.wire t.cache r (row_at t r) m
@@ -145,16 +143,16 @@ module _ (t : Tables) (fits : Together t) where
   unfolding takes
   takes_on r m k ts ta d =
       ap (on_delivery t.realm t.terms t.wire t.cache r (row_at t r) m)
-      ((is_delivery (message_at t.terms m) k (row_at t r).a ts (row_at t r).b ta).1 d.is)
+      ((is_delivery (message_at t.terms m) (record { k = k; a = (row_at t r).a; ts = ts; b = (row_at t r).b; ta = ta })).1 d.is)
       ∙ met (eqb (row_at t r).a (row_at t r).a && eqb (row_at t r).b (row_at t r).b) _ _ (twice (row_at t r).a (row_at t r).b)
       (met (derivable_at t.realm t.terms t.wire m) _ _ (derivable m d) refl)
 
   finishes_on : (r m : ℕ) → Brings t m (confirmation (row_at t r).ta (row_at t r).k) → t.realm.clock < (row_at t r).ts + t.realm.ls
       → finishes t.realm t.terms t.wire r (row_at t r) m
-      ≡ Takes (finishing t.realm.clock r (row_at t r).a (row_at t r).b (row_at t r).k (row_at t r).ts (row_at t r).ta)
+      ≡ Ok (finishing t.realm.clock r (row_at t r).a (row_at t r).b (row_at t r).k (row_at t r).ts (row_at t r).ta)
   unfolding finishes
   finishes_on r m d l =
-      ap (on_confirmation t.realm t.terms t.wire r (row_at t r) m) ((is_confirmation (message_at t.terms m) (row_at t r).ta (row_at t r).k).1 d.is)
+      ap (on_confirmation t.realm t.terms t.wire r (row_at t r) m) ((is_confirmation (message_at t.terms m) (record { ta = (row_at t r).ta; k = (row_at t r).k })).1 d.is)
       ∙ met (eqb (row_at t r).ta (row_at t r).ta && eqb (row_at t r).k (row_at t r).k) _ _ (twice (row_at t r).ta (row_at t r).k)
       (met (derivable_at t.realm t.terms t.wire m) _ _ (derivable m d) (met (ticket_lives t.realm (row_at t r).ts) _ _ (lt-ltb _ _ l) refl))
 
@@ -181,17 +179,17 @@ module _ (t : Tables) (fits : Together t) where
       decided_by (fields 5 r 0 0 m 0) (omega arith) (omega arith) refl (takes_in 5 r m w.below d.below) (met _ _ _ w.at (takes_on r m k ts ta d))
 
   -- no other way gives 22
-  only_22 : (ok : Bool) (number : ℕ) (x : Effect) → roomed t (need ok number (Takes x)) ≡ Refused 22 → number ≡ 22
+  only_22 : (ok : Bool) (number : ℕ) (x : Effect) → roomed t (need ok number (Ok x)) ≡ Err 22 → number ≡ 22
   only_22 false number x z = cc
   only_22 true number x z = absurd (by (fits_in t.terms t.realm.terms (messages_of t.terms x.sends)) z)
     where
-      by : (ok : Bool) → need ok 20 (Takes x) ≡ Refused 22 → ⊥
+      by : (ok : Bool) → need ok 20 (Ok x) ≡ Err 22 → ⊥
       by true z = let z : ◌≡◌ {A = ℕ} 0 1 = cc in omega arith
       by false z = let z : ◌≡◌ {A = ℕ} 20 22 = cc in omega arith
 
   -- past 17: 22 exactly where the time is ahead, whatever the cache holds and whether or not the terms fit
   pub ahead_exact : (r m k ts ta : ℕ) → Meets t r Responder Opened → Brings t m (pair (ticket k (row_at t r).a ts (row_at t r).b) (authenticator (row_at t r).a ta k))
-      → t.realm.clock < ts + t.realm.ls → t.realm.clock < ta + t.realm.la → (decision t (fields 5 r 0 0 m 0) ≡ Refused 22) ↔ (t.realm.clock + t.realm.la < ta)
+      → t.realm.clock < ts + t.realm.ls → t.realm.clock < ta + t.realm.la → (decision t (fields 5 r 0 0 m 0) ≡ Err 22) ↔ (t.realm.clock + t.realm.la < ta)
   unfolding decision
   ahead_exact r m k ts ta w d l o =
       let e : Entry = record { b = (row_at t r).b; k = k; ta = ta } in
@@ -205,14 +203,14 @@ module _ (t : Tables) (fits : Together t) where
   -- past 22: the number that `remember` answers, or else it is taken
   pub delivered : (r m k ts ta : ℕ) → Meets t r Responder Opened → Brings t m (pair (ticket k (row_at t r).a ts (row_at t r).b) (authenticator (row_at t r).a ta k))
       → Timely t ts ta → let number = remembers (row_at t r).b k ta in
-      decided t (fields 5 r 0 0 m 0) ≡ need (eqb number 0) number (Takes (accepting t.realm.clock r (row_at t r).a (row_at t r).b k ts ta))
+      decided t (fields 5 r 0 0 m 0) ≡ need (eqb number 0) number (Ok (accepting t.realm.clock r (row_at t r).a (row_at t r).b k ts ta))
   delivered r m k ts ta w d l =
       let e : Entry = record { b = (row_at t r).b; k = k; ta = ta } in
       delivers r m k ts ta w d
       ∙ ap (admitting r k ts ta)
       (admission_remembers t.realm t.cache ts e (lt-ltb _ _ l.ticket_lives) (lt-ltb _ _ l.authenticator_lives) (le-leb _ _ l.not_ahead) cache_fits)
 
-  took_by : {step r a b m now : ℕ} {e : Event} {x : Effect} → Took t (calls.Step step r a b m now) e x → decided t (fields step r a b m now) ≡ Takes x
+  took_by : {step r a b m now : ℕ} {e : Event} {x : Effect} → Took t (calls.Step step r a b m now) e x → decided t (fields step r a b m now) ≡ Ok x
   unfolding step_of uses_table need_table opens_run ticks queries
   took_by (took1 {a} {b} p room) =
       decided_by (fields 1 0 a b 0 0) (omega arith) (omega arith) refl (opens_in 1 a b p)
@@ -242,5 +240,5 @@ module _ (t : Tables) (fits : Together t) where
       decided_by (fields 10 0 0 0 m 0) (omega arith) (omega arith) refl (message_in 10 m k.below)
       (met (derivable_at t.realm t.terms t.wire m) _ _ (derivable m k) refl)
 
-pub took_decided : (t : Tables) → Together t → (s : Step) {e : Event} {x : Effect} → Took t (call_of s) e x → decided t s ≡ Takes x
+pub took_decided : (t : Tables) → Together t → (s : Step) {e : Event} {x : Effect} → Took t (call_of s) e x → decided t s ≡ Ok x
 took_decided t fits s k = took_by t fits k

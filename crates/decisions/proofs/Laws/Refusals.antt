@@ -3,7 +3,7 @@
 -- message, and what comes after it only where he can.
 -- Assumes nothing.
 use Prim.Native.Nat.{ℕ, zero, suc, ◌<◌, ◌≤◌}
-use Rattle.std.specs.Prelude.{Bool, false, not, ◌&&◌, cond, List, ◌∷◌, ◌⊎◌, ◌≡◌, leb, eqb}
+use Rattle.std.specs.Prelude.{Bool, false, not, ◌&&◌, cond, List, ◌∷◌, ◌⊎◌, ◌≡◌, leb, eqb, Ok, Err, Option, None, Some}
 use Rattle.std.proofs.Math.Bool.{true}
 use Rattle.std.proofs.Common.{inl, inr, arith, eq-eqb, ne_eqb}
 use Rattle.std.proofs.Math.Path.{refl}
@@ -14,14 +14,11 @@ use Rattle.exchange.specs.Forms.{form_of}
 use Rattle.exchange.specs.Needs.{need_of, meets}
 use Rattle.traces.specs.Lists.{◌∈◌, here, there}
 use Rattle.forms.specs.Forms.{request_in, confirmation_in}
-use Rattle.forms.specs.Grant.{Granted, Is, Other, grant_in}
+use Rattle.forms.specs.Grant.{Granted, grant_in}
 use Rattle.forms.specs.declared.Confirmation.{Confirmation}
-use Rattle.forms.specs.declared.Confirmation.TheVariants as confirmations
 use Rattle.forms.specs.declared.Request.{Request}
-use Rattle.forms.specs.declared.Request.TheVariants as requests
 use Rattle.forms.specs.Delivery.{delivery_in}
 use Rattle.forms.specs.declared.Delivery.{Delivery}
-use Rattle.forms.specs.declared.Delivery.TheVariants as deliveries
 use Rattle.rows.specs.Runs.{run_at}
 use Rattle.replay.specs.declared.entry.Entry.{Entry}
 use Rattle.realm.specs.declared.header.Realm.{Realm}
@@ -31,10 +28,8 @@ use Rattle.realm.proofs.InputLaws.{passed}
 use Rattle.realm.specs.Tables.{Tables}
 use Rattle.conditions.specs.Conditions.{derivable_at, ticket_lives, admission, admission_refusals}
 use Rattle.conditions.proofs.Promises.{admission_refusals_lem}
-use Rattle.decisions.specs.declared.Verdict.{Verdict}
-use Rattle.decisions.specs.declared.Verdict.TheVariants.{Takes, Refused}
 use Rattle.decisions.specs.Effects.{messages_of}
-use Rattle.decisions.specs.Decision.{need, room_for_run, on_request, issues, on_grant, authenticates, on_delivery, takes, on_confirmation, finishes}
+use Rattle.decisions.specs.Decision.{need, room_for_run, on_request, issues, on_grant, authenticates, on_delivery, takes, on_confirmation, finishes, Verdict}
 use Rattle.decisions.specs.Decision.{opens_run, ticks, queries, step_of, decided, roomed, decision}
 use Rattle.decisions.specs.Refusals.{refusals_of, all_of}
 use Rattle.decisions.proofs.Refusals.{field_refusals}
@@ -50,8 +45,8 @@ pub record Parted (d : Bool) (k : ℕ) : Type 0 where
 
 -- the verdict takes the step, its message being derivable, or has one of these numbers
 abbrev pub Tells : List ℕ → Bool → Verdict → Type 0
-Tells ns d (Takes x) = d ≡ true
-Tells ns d (Refused k) = (k ∈ ns) × Parted d k
+Tells ns d (Ok x) = d ≡ true
+Tells ns d (Err k) = (k ∈ ns) × Parted d k
 
 under : {d : Bool} (k : ℕ) → k < 15 → Parted d k
 under k h = record { underivable = λ e. absurd (omega arith); derivable = λ l. absurd (omega arith) }
@@ -92,32 +87,32 @@ module _ (h : Realm) (ts ws : List ℕ) (m : ℕ) where
   abbrev can : Bool
   can = derivable_at h ts ws m
 
-  on_request_lem : (q : Request) → Tells (refusals_of 3) can (on_request h ts ws m q)
-  on_request_lem requests.Other = (there here, under 14 (omega arith))
-  on_request_lem (requests.Is a b n) =
-      tells_need (refusals_of 3) can (not (eqb a 0) && not (eqb b 0) && not (eqb a b)) 14 _ (there here) (under 14 (omega arith))
+  on_request_lem : (q : Option Request) → Tells (refusals_of 3) can (on_request h ts ws m q)
+  on_request_lem None = (there here, under 14 (omega arith))
+  on_request_lem (Some q) =
+      tells_need (refusals_of 3) can (not (eqb q.a 0) && not (eqb q.b 0) && not (eqb q.a q.b)) 14 _ (there here) (under 14 (omega arith))
       (tells_derivable (refusals_of 3) can _ (there (there here)) (λ e. e))
 
   module _ (r : ℕ) (own : Row) where
-    on_grant_lem : (q : Granted) → Tells (refusals_of 4) can (on_grant h ts ws r own m q)
-    on_grant_lem Other = (there here, under 14 (omega arith))
-    on_grant_lem (Is k b ts' n a x) =
-        tells_need (refusals_of 4) can (eqb b own.b && eqb n r && eqb a own.a) 14 _ (there here) (under 14 (omega arith))
+    on_grant_lem : (q : Option Granted) → Tells (refusals_of 4) can (on_grant h ts ws r own m q)
+    on_grant_lem None = (there here, under 14 (omega arith))
+    on_grant_lem (Some q) =
+        tells_need (refusals_of 4) can (eqb q.b own.b && eqb q.n r && eqb q.a own.a) 14 _ (there here) (under 14 (omega arith))
         (tells_derivable (refusals_of 4) can _ (there (there here))
-        (λ e. tells_need (refusals_of 4) can (ticket_lives h ts') 16 _ (there (there (there here))) (over 16 (omega arith) e) e))
+        (λ e. tells_need (refusals_of 4) can (ticket_lives h q.ts) 16 _ (there (there (there here))) (over 16 (omega arith) e) e))
 
-    on_delivery_lem : (cache : List Entry) (q : Delivery) → Tells (refusals_of 5) can (on_delivery h ts ws cache r own m q)
-    on_delivery_lem cache deliveries.Other = (there here, under 14 (omega arith))
-    on_delivery_lem cache (deliveries.Is k a ts' b ta) =
-        let x : Entry = record { b = b; k = k; ta = ta } in
-        tells_need (refusals_of 5) can (eqb a own.a && eqb b own.b) 14 _ (there here) (under 14 (omega arith))
+    on_delivery_lem : (cache : List Entry) (q : Option Delivery) → Tells (refusals_of 5) can (on_delivery h ts ws cache r own m q)
+    on_delivery_lem cache None = (there here, under 14 (omega arith))
+    on_delivery_lem cache (Some q) =
+        let x : Entry = record { b = q.b; k = q.k; ta = q.ta } in
+        tells_need (refusals_of 5) can (eqb q.a own.a && eqb q.b own.b) 14 _ (there here) (under 14 (omega arith))
         (tells_derivable (refusals_of 5) can _ (there (there here))
-        (λ e. tells_number (refusals_of 5) can (admission h cache ts' x) _ (of_admission (admission h cache ts' x) e (admission_refusals_lem h cache ts' x)) e))
+        (λ e. tells_number (refusals_of 5) can (admission h cache q.ts x) _ (of_admission (admission h cache q.ts x) e (admission_refusals_lem h cache q.ts x)) e))
 
-    on_confirmation_lem : (q : Confirmation) → Tells (refusals_of 6) can (on_confirmation h ts ws r own m q)
-    on_confirmation_lem confirmations.Other = (there here, under 14 (omega arith))
-    on_confirmation_lem (confirmations.Is ta k) =
-        tells_need (refusals_of 6) can (eqb ta own.ta && eqb k own.k) 14 _ (there here) (under 14 (omega arith))
+    on_confirmation_lem : (q : Option Confirmation) → Tells (refusals_of 6) can (on_confirmation h ts ws r own m q)
+    on_confirmation_lem None = (there here, under 14 (omega arith))
+    on_confirmation_lem (Some q) =
+        tells_need (refusals_of 6) can (eqb q.ta own.ta && eqb q.k own.k) 14 _ (there here) (under 14 (omega arith))
         (tells_derivable (refusals_of 6) can _ (there (there here))
         (λ e. tells_need (refusals_of 6) can (ticket_lives h own.ts) 16 _ (there (there (there here))) (over 16 (omega arith) e) e))
 
@@ -186,9 +181,9 @@ module _ (t : Tables) where
   by_step (suc (suc (suc (suc (suc (suc (suc (suc (suc (suc (suc step))))))))))) r a b m now low high = absurd (omega arith)
 
   with_room : (ns : List ℕ) (d : Bool) (v : Verdict) → Tells ns d v → Tells (20 ∷ ns) d (roomed t v)
-  with_room ns d (Refused k) (i, p) = (there i, p)
-  with_room ns d (Takes x) e =
-      tells_need (20 ∷ ns) d (fits_in t.terms t.realm.terms (messages_of t.terms x.sends)) 20 (Takes x) here (over 20 (omega arith) e) e
+  with_room ns d (Err k) (i, p) = (there i, p)
+  with_room ns d (Ok x) e =
+      tells_need (20 ∷ ns) d (fits_in t.terms t.realm.terms (messages_of t.terms x.sends)) 20 (Ok x) here (over 20 (omega arith) e) e
 
   -- behind its fields, a step has the refusals of the last column and 20
   pub state_tells : (s : Step) → input_refusal t.realm s ≡ 0 → Tells (20 ∷ refusals_of s.step) (asked_for t s) (decision t s)
@@ -199,12 +194,12 @@ module _ (t : Tables) where
       (with_room (refusals_of s.step) (asked_for t s) (step_of t s) (by_step s.step s.run s.a s.b s.m s.t p.low p.high))
 
   of_state : (step : ℕ) (d : Bool) (v : Verdict) → Tells (20 ∷ refusals_of step) d v → Tells (all_of step) d v
-  of_state step d (Takes x) h = h
-  of_state step d (Refused k) (here, p) = (here, p)
-  of_state step d (Refused k) (there i, p) = (there (there (there (there i))), p)
+  of_state step d (Ok x) h = h
+  of_state step d (Err k) (here, p) = (here, p)
+  of_state step d (Err k) (there i, p) = (there (there (there (there i))), p)
 
   -- its fields come first
-  pub fields_refuse : (s : Step) → (input_refusal t.realm s ≡ 0 → ⊥) → decision t s ≡ Refused (input_refusal t.realm s)
+  pub fields_refuse : (s : Step) → (input_refusal t.realm s ≡ 0 → ⊥) → decision t s ≡ Err (input_refusal t.realm s)
   unfolding decision decided
   fields_refuse s n = rw (ne_eqb (input_refusal t.realm s) 0 n)
 

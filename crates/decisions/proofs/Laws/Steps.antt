@@ -1,7 +1,7 @@
 -- A step that is decided to be taken, by its number: what its row of the step table asks for is met.
 -- Assumes nothing.
 use Prim.Native.Nat.{ℕ, zero, suc, ◌<◌}
-use Rattle.std.specs.Prelude.{◌≡◌, ltb, leb, eqb}
+use Rattle.std.specs.Prelude.{◌≡◌, ltb, leb, eqb, Ok}
 use Rattle.std.proofs.Math.Path.{refl, subst}
 use Rattle.std.proofs.Common.{sym, ltb-true, leb-true, eqb-true}
 use Rattle.terms.specs.Meaning.{message_at}
@@ -19,9 +19,7 @@ use Rattle.realm.specs.declared.input.Step.{Step}
 use Rattle.realm.specs.Input.{uses_table, uses_of, input_refusal}
 use Rattle.realm.proofs.InputLaws.{passed}
 use Rattle.decisions.specs.declared.Effect.{Effect}
-use Rattle.decisions.specs.declared.Verdict.{Verdict}
-use Rattle.decisions.specs.declared.Verdict.TheVariants.{Takes}
-use Rattle.decisions.specs.Decision.{need, issues, authenticates, takes, finishes}
+use Rattle.decisions.specs.Decision.{need, issues, authenticates, takes, finishes, Verdict}
 use Rattle.decisions.specs.Decision.{opens_run, ticks, queries, step_of, decided}
 use Rattle.realm.specs.Tables.{Tables, Together}
 use Rattle.realm.specs.Fields.{call_of}
@@ -34,13 +32,13 @@ module _ (t : Tables) (fits : Together t) where
   abbrev fields : (step r a b m now : ℕ) → Step
   fields step r a b m now = record { step = step; run = r; a = a; b = b; m = m; t = now }
 
-  met : (r : ℕ) (role : Role) (stage : Stage) (k : ℕ) (v : Verdict) {e : Effect} → r < t.realm.runs → need (is_at (row_at t r) role stage) k v ≡ Takes e
-      → Meets t r role stage × (v ≡ Takes e)
+  met : (r : ℕ) (role : Role) (stage : Stage) (k : ℕ) (v : Verdict) {e : Effect} → r < t.realm.runs → need (is_at (row_at t r) role stage) k v ≡ Ok e
+      → Meets t r role stage × (v ≡ Ok e)
   met r role stage k v l q =
       let p = need_takes (is_at (row_at t r) role stage) k v q in
       (record { below = l; at = p.0 }, p.1)
 
-  took_by : (step r a b m now : ℕ) {e : Effect} → Range t.realm (uses_of step) (fields step r a b m now) → step_of t (fields step r a b m now) ≡ Takes e
+  took_by : (step r a b m now : ℕ) {e : Effect} → Range t.realm (uses_of step) (fields step r a b m now) → step_of t (fields step r a b m now) ≡ Ok e
       → TookAs t (cleared (uses_of step) (fields step r a b m now)) e
   unfolding step_of uses_table need_table opens_run issues authenticates takes finishes ticks queries
   took_by zero r a b m now f v = not_refused v
@@ -75,7 +73,7 @@ module _ (t : Tables) (fits : Together t) where
       subst (TookAs t (calls.Step 10 0 0 0 m 0)) (same_effect p.1) (took_as (took10 (brings t fits m _ (f.m refl) refl p.0)))
   took_by (suc (suc (suc (suc (suc (suc (suc (suc (suc (suc (suc step))))))))))) r a b m now f v = not_refused v
 
-  pub took : (s : Step) {e : Effect} → decided t s ≡ Takes e → TookAs t (call_of s) e
+  pub took : (s : Step) {e : Effect} → decided t s ≡ Ok e → TookAs t (call_of s) e
   unfolding decided
   took s {e} v =
       let p = need_takes (eqb (input_refusal t.realm s) 0) (input_refusal t.realm s) (step_of t s) v in

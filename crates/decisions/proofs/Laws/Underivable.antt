@@ -1,6 +1,6 @@
 -- What follows from the definitions of the same name in specs/.
 -- Assumes nothing.
-use Rattle.std.specs.Prelude.{ℕ, zero, suc, ◌<◌, Bool, true, false, ◌⊎◌, ◌≡◌}
+use Rattle.std.specs.Prelude.{ℕ, zero, suc, ◌<◌, Bool, true, false, ◌⊎◌, ◌≡◌, Ok, Err}
 use Rattle.std.proofs.Math.Bool.{cond}
 use Rattle.std.proofs.Common.{inl, inr, sym, ap, ◌∙◌, subst, arith, ne_eqb}
 use Rattle.std.proofs.Math.Path.{refl}
@@ -18,9 +18,7 @@ use Rattle.realm.specs.Input.{uses_table, uses_of, input_refusal}
 use Rattle.realm.proofs.InputLaws.{passed}
 use Rattle.realm.specs.Tables.{Tables, Together}
 use Rattle.conditions.specs.Conditions.{derivable_at}
-use Rattle.decisions.specs.declared.Verdict.{Verdict}
-use Rattle.decisions.specs.declared.Verdict.TheVariants.{Takes, Refused}
-use Rattle.decisions.specs.Decision.{decided, decision}
+use Rattle.decisions.specs.Decision.{decided, decision, Verdict}
 use Rattle.decisions.proofs.Laws.Refusals.{asked_for, Parted, Tells, tells, fields_number}
 use Rattle.decisions.specs.Laws.Took.{Brings}
 use Rattle.decisions.proofs.Laws.Verdict.{brings}
@@ -88,25 +86,25 @@ module _ (t : Tables) (w : Together t) (s : Step) where
       (function_exact t.realm.flags w.terms_hold w.wire_words s.m b.below).no (asked (uses_of s.step).m e)
       (subst (Derives t.realm.n t.realm.flags (Known t.terms t.realm.terms t.wire)) (sym b.is) b.derivable)
 
-  pub told : decision t s ≡ Refused 15 → (15 ∈ refusals_of s.step) × ((x : Message) → ¬ (Brings t s.m x)) × Reached (decision t s)
+  pub told : decision t s ≡ Err 15 → (15 ∈ refusals_of s.step) × ((x : Message) → ¬ (Brings t s.m x)) × Reached (decision t s)
   told e =
       let p = subst (Tells (all_of s.step) (asked_for t s)) e (tells t s) in
       (of_state s.step p.0, underivable (p.1.underivable refl), λ k h q. other (sym e ∙ q) h)
     where
-      other : {k : ℕ} → Refused 15 ≡ Refused k → k < 15 → ⊥
+      other : {k : ℕ} → ◌≡◌ {A = Verdict} (Err 15) (Err k) → k < 15 → ⊥
       other {k} q h = let z : ◌≡◌ {A = ℕ} 15 k = cc in omega arith
 
-  pub told_back : 15 ∈ refusals_of s.step → ((x : Message) → ¬ (Brings t s.m x)) → Reached (decision t s) → decision t s ≡ Refused 15
+  pub told_back : 15 ∈ refusals_of s.step → ((x : Message) → ¬ (Brings t s.m x)) → Reached (decision t s) → decision t s ≡ Err 15
   told_back i none f = by (decision t s) refl (tells t s)
     where
       never : {A : Type 0} → asked_for t s ≡ true → A
       never e = absurd (none (message_at t.terms s.m) (reached_brings i f e))
 
-      at : (k : ℕ) → decision t s ≡ Refused k → Parted (asked_for t s) k → Dec (k ≡ 15) → Dec (15 < k) → decision t s ≡ Refused 15
-      at k e p (yes q) l = e ∙ ap Refused q
+      at : (k : ℕ) → decision t s ≡ Err k → Parted (asked_for t s) k → Dec (k ≡ 15) → Dec (15 < k) → decision t s ≡ Err 15
+      at k e p (yes q) l = e ∙ ap Err q
       at k e p (no n) (yes l) = never (p.derivable l)
       at k e p (no n) (no l) = absurd (f k (omega arith) e)
 
-      by : (v : Verdict) → decision t s ≡ v → Tells (all_of s.step) (asked_for t s) v → decision t s ≡ Refused 15
-      by (Takes x) e h = never h
-      by (Refused k) e h = at k e h.1 (ℕ_discrete k 15) (dec_lt 15 k)
+      by : (v : Verdict) → decision t s ≡ v → Tells (all_of s.step) (asked_for t s) v → decision t s ≡ Err 15
+      by (Ok x) e h = never h
+      by (Err k) e h = at k e h.1 (ℕ_discrete k 15) (dec_lt 15 k)

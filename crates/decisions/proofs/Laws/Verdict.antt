@@ -1,7 +1,7 @@
 -- The verdict turned round: a step that is decided to be taken has met what its row of the step table asks for.
 -- Assumes nothing.
 use Prim.Native.Nat.{ℕ, ◌+◌, ◌<◌, ◌≤◌}
-use Rattle.std.specs.Prelude.{◌≡◌, Bool, true, false, not, ◌&&◌, eqb}
+use Rattle.std.specs.Prelude.{◌≡◌, Bool, true, false, not, ◌&&◌, eqb, Ok, Err, Option, None, Some}
 use Rattle.std.proofs.Math.Path.{refl, subst}
 use Rattle.std.proofs.Common.{sym, ap, ◌∙◌, arith, ltb-true, leb-true, eqb-true}
 use Rattle.std.proofs.lemmas.Bool.{eqb-false, not-true}
@@ -12,16 +12,13 @@ use Rattle.deduction.specs.Derives.{Derives}
 use Rattle.deduction.specs.Known.{Known}
 use Rattle.synthesis.proofs.Promises.{function_exact}
 use Rattle.forms.specs.Forms.{request_in, confirmation_in}
-use Rattle.forms.specs.Grant.{Granted, Is, Other, grant_in}
+use Rattle.forms.specs.Grant.{Granted, grant_in}
 use Rattle.forms.proofs.Promises.{is_request, is_grant, is_confirmation}
 use Rattle.forms.specs.declared.Confirmation.{Confirmation}
-use Rattle.forms.specs.declared.Confirmation.TheVariants as confirmations
 use Rattle.forms.specs.declared.Request.{Request}
-use Rattle.forms.specs.declared.Request.TheVariants as requests
 use Rattle.forms.specs.Delivery.{delivery_in}
 use Rattle.forms.proofs.Promises.{is_delivery}
 use Rattle.forms.specs.declared.Delivery.{Delivery}
-use Rattle.forms.specs.declared.Delivery.TheVariants as deliveries
 use Rattle.replay.specs.declared.entry.Entry.{Entry}
 use Rattle.terms.proofs.AllOf.{five}
 use Rattle.exchange.specs.declared.call.Call.TheVariants as calls
@@ -35,9 +32,7 @@ use Rattle.conditions.proofs.Promises.{admission_exact}
 use Rattle.sending.specs.Send.{fits_in}
 use Rattle.decisions.specs.Effects.{messages_of}
 use Rattle.decisions.specs.declared.Effect.{Effect}
-use Rattle.decisions.specs.declared.Verdict.{Verdict}
-use Rattle.decisions.specs.declared.Verdict.TheVariants.{Takes, Refused}
-use Rattle.decisions.specs.Decision.{need, on_request, on_grant, on_delivery, on_confirmation}
+use Rattle.decisions.specs.Decision.{need, on_request, on_grant, on_delivery, on_confirmation, Verdict}
 use Rattle.decisions.specs.Decision.{decided, roomed, decision}
 use Rattle.realm.specs.Tables.{Tables, Together}
 use Rattle.kerberos.specs.Reading.{parts}
@@ -48,13 +43,13 @@ use Rattle.decisions.proofs.Laws.Took.{took_as}
 
 -- ---- what a verdict says
 
-pub not_refused : {A : Type 0} {number : ℕ} {e : Effect} → Refused number ≡ Takes e → A
+pub not_refused : {A : Type 0} {number : ℕ} {e : Effect} → ◌≡◌ {A = Verdict} (Err number) (Ok e) → A
 not_refused q = let z : ◌≡◌ {A = ℕ} 0 1 = cc in absurd (omega arith)
 
-pub same_effect : {x e : Effect} → Takes x ≡ Takes e → x ≡ e
+pub same_effect : {x e : Effect} → ◌≡◌ {A = Verdict} (Ok x) (Ok e) → x ≡ e
 same_effect q = cc
 
-pub need_takes : (ok : Bool) (number : ℕ) (v : Verdict) {e : Effect} → need ok number v ≡ Takes e → (ok ≡ true) × (v ≡ Takes e)
+pub need_takes : (ok : Bool) (number : ℕ) (v : Verdict) {e : Effect} → need ok number v ≡ Ok e → (ok ≡ true) × (v ≡ Ok e)
 need_takes true number v q = (refl, q)
 need_takes false number v q = not_refused q
 
@@ -91,17 +86,17 @@ module _ (t : Tables) (fits : Together t) where
   abbrev pub can : ℕ → Bool
   can m = derivable_at t.realm t.terms t.wire m
 
-  pub took_issue : (m : ℕ) → m < t.realm.terms → t.realm.runs < 64 → (q : Request) → request_in (message_at t.terms m) ≡ q
-      → {e : Effect} → on_request t.realm t.terms t.wire m q ≡ Takes e → TookAs t (calls.Step 3 0 0 0 m 0) e
-  took_issue m l room requests.Other i v = not_refused v
-  took_issue m l room (requests.Is a b n) i v =
-      let p = need_takes (not (eqb a 0) && not (eqb b 0) && not (eqb a b)) _ _ v in
+  pub took_issue : (m : ℕ) → m < t.realm.terms → t.realm.runs < 64 → (q : Option Request) → request_in (message_at t.terms m) ≡ q
+      → {e : Effect} → on_request t.realm t.terms t.wire m q ≡ Ok e → TookAs t (calls.Step 3 0 0 0 m 0) e
+  took_issue m l room None i v = not_refused v
+  took_issue m l room (Some q) i v =
+      let p = need_takes (not (eqb q.a 0) && not (eqb q.b 0) && not (eqb q.a q.b)) _ _ v in
       let d = need_takes (can m) _ _ p.1 in
-      let f = five true true (not (eqb a 0)) (not (eqb b 0)) (not (eqb a b)) p.0 in
-      let apart : Apart a b =
-      record { a_not_server = differ a 0 f.third; b_not_server = differ b 0 f.fourth; unequal = differ a b f.fifth } in
+      let f = five true true (not (eqb q.a 0)) (not (eqb q.b 0)) (not (eqb q.a q.b)) p.0 in
+      let apart : Apart q.a q.b =
+      record { a_not_server = differ q.a 0 f.third; b_not_server = differ q.b 0 f.fourth; unequal = differ q.a q.b f.fifth } in
       subst (TookAs t (calls.Step 3 0 0 0 m 0)) (same_effect d.1)
-      (took_as (took3 (brings m (request a b n) l ((is_request (message_at t.terms m) a b n).0 i) d.0) apart room))
+      (took_as (took3 (brings m (request q.a q.b q.n) l ((is_request (message_at t.terms m) q).0 i) d.0) apart room))
     where
       differ : (x y : ℕ) → not (eqb x y) ≡ true → ¬ (x ≡ y)
       differ x y e = eqb-false x y (not-true (eqb x y) e)
@@ -119,65 +114,65 @@ module _ (t : Tables) (fits : Together t) where
       let means = ap (message_at t.terms) q ∙ s.means in
       (means, record { below = omega (arith, q, below); is = means ∙ is })
 
-  pub took_grant : (r m : ℕ) → Meets t r Initiator Opened → m < t.realm.terms → (q : Granted) → grant_in (form_at t) (message_at t.terms m) ≡ q
-      → {e : Effect} → on_grant t.realm t.terms t.wire r (row_at t r) m q ≡ Takes e → TookAs t (calls.Step 4 r 0 0 m 0) e
-  took_grant r m w l Other i v = not_refused v
-  took_grant r m w l (Is k b ts n a x) i v =
-      let p = need_takes (eqb b (row_at t r).b && eqb n r && eqb a (row_at t r).a) _ _ v in
+  pub took_grant : (r m : ℕ) → Meets t r Initiator Opened → m < t.realm.terms → (q : Option Granted) → grant_in (form_at t) (message_at t.terms m) ≡ q
+      → {e : Effect} → on_grant t.realm t.terms t.wire r (row_at t r) m q ≡ Ok e → TookAs t (calls.Step 4 r 0 0 m 0) e
+  took_grant r m w l None i v = not_refused v
+  took_grant r m w l (Some q) i v =
+      let p = need_takes (eqb q.b (row_at t r).b && eqb q.n r && eqb q.a (row_at t r).a) _ _ v in
       let d = need_takes (can m) _ _ p.1 in
-      let j = need_takes (ticket_lives t.realm ts) _ _ d.1 in
-      let f = five true true (eqb b (row_at t r).b) (eqb n r) (eqb a (row_at t r).a) p.0 in
-      let g = (is_grant (message_at t.terms m) (form_at t) k b ts n a x).0 i in
-      let c = passes_on m l k b ts n a x g.0 g.1 in
-      let own = same (eqb-true b (row_at t r).b f.third) (eqb-true n r f.fourth) (eqb-true a (row_at t r).a f.fifth) (sym c.0) in
+      let j = need_takes (ticket_lives t.realm q.ts) _ _ d.1 in
+      let f = five true true (eqb q.b (row_at t r).b) (eqb q.n r) (eqb q.a (row_at t r).a) p.0 in
+      let g = (is_grant (message_at t.terms m) (form_at t) q).0 i in
+      let c = passes_on m l q.k q.b q.ts q.n q.a q.x g.0 g.1 in
+      let own = same (eqb-true q.b (row_at t r).b f.third) (eqb-true q.n r f.fourth) (eqb-true q.a (row_at t r).a f.fifth) (sym c.0) in
       subst (TookAs t (calls.Step 4 r 0 0 m 0)) (same_effect j.1)
-      (took_as (took4 w (brings m (grant (form_at t) k (row_at t r).b ts r (row_at t r).a (message_at t.terms (number_of x))) l (g.0 ∙ own) d.0) c.1 (ltb-true _ _ j.0)))
+      (took_as (took4 w (brings m (grant (form_at t) q.k (row_at t r).b q.ts r (row_at t r).a (message_at t.terms (number_of q.x))) l (g.0 ∙ own) d.0) c.1 (ltb-true _ _ j.0)))
     where
-      same : {b' n' a' : ℕ} {x' : Message} → b ≡ b' → n ≡ n' → a ≡ a' → x ≡ x' → grant (form_at t) k b ts n a x ≡ grant (form_at t) k b' ts n' a' x'
-      same p q s u = λ i. grant (form_at t) k (p i) ts (q i) (s i) (u i)
+      same : {b' n' a' : ℕ} {x' : Message} → q.b ≡ b' → q.n ≡ n' → q.a ≡ a' → q.x ≡ x' → grant (form_at t) q.k q.b q.ts q.n q.a q.x ≡ grant (form_at t) q.k b' q.ts n' a' x'
+      same eb en ea ex = λ i. grant (form_at t) q.k (eb i) q.ts (en i) (ea i) (ex i)
 
-  pub took_delivery : (r m : ℕ) → Meets t r Responder Opened → m < t.realm.terms → (q : Delivery) → delivery_in (message_at t.terms m) ≡ q
-      → {e : Effect} → on_delivery t.realm t.terms t.wire t.cache r (row_at t r) m q ≡ Takes e → TookAs t (calls.Step 5 r 0 0 m 0) e
-  took_delivery r m w l deliveries.Other i v = not_refused v
-  took_delivery r m w l (deliveries.Is k a ts b ta) i v =
-      let p = need_takes (eqb a (row_at t r).a && eqb b (row_at t r).b) _ _ v in
+  pub took_delivery : (r m : ℕ) → Meets t r Responder Opened → m < t.realm.terms → (q : Option Delivery) → delivery_in (message_at t.terms m) ≡ q
+      → {e : Effect} → on_delivery t.realm t.terms t.wire t.cache r (row_at t r) m q ≡ Ok e → TookAs t (calls.Step 5 r 0 0 m 0) e
+  took_delivery r m w l None i v = not_refused v
+  took_delivery r m w l (Some q) i v =
+      let p = need_takes (eqb q.a (row_at t r).a && eqb q.b (row_at t r).b) _ _ v in
       let d = need_takes (can m) _ _ p.1 in
-      let number = admission t.realm t.cache ts (record { b = b; k = k; ta = ta }) in
+      let number = admission t.realm t.cache q.ts (record { b = q.b; k = q.k; ta = q.ta }) in
       let j = need_takes (eqb number 0) number _ d.1 in
-      let f = five true true true (eqb a (row_at t r).a) (eqb b (row_at t r).b) p.0 in
-      let ea = eqb-true a (row_at t r).a f.fourth in
-      let eb = eqb-true b (row_at t r).b f.fifth in
+      let f = five true true true (eqb q.a (row_at t r).a) (eqb q.b (row_at t r).b) p.0 in
+      let ea = eqb-true q.a (row_at t r).a f.fourth in
+      let eb = eqb-true q.b (row_at t r).b f.fifth in
       subst (TookAs t (calls.Step 5 r 0 0 m 0)) (same_effect j.1)
-      (took_as (took5 w (brings m _ l ((is_delivery (message_at t.terms m) k a ts b ta).0 i ∙ same ea eb) d.0)
-      (rw (← eb) (admits ts b k ta (eqb-true number 0 j.0)))))
+      (took_as (took5 w (brings m _ l ((is_delivery (message_at t.terms m) q).0 i ∙ same ea eb) d.0)
+      (rw (← eb) (admits q.ts q.b q.k q.ta (eqb-true number 0 j.0)))))
     where
-      same : {a' b' : ℕ} → a ≡ a' → b ≡ b' → pair (ticket k a ts b) (authenticator a ta k) ≡ pair (ticket k a' ts b') (authenticator a' ta k)
+      same : {a' b' : ℕ} → q.a ≡ a' → q.b ≡ b' → pair (ticket q.k q.a q.ts q.b) (authenticator q.a q.ta q.k) ≡ pair (ticket q.k a' q.ts b') (authenticator a' q.ta q.k)
       same x y = cc
 
-  pub took_confirmation : (r m : ℕ) → Meets t r Initiator Authenticated → m < t.realm.terms → (q : Confirmation) → confirmation_in (message_at t.terms m) ≡ q
-      → {e : Effect} → on_confirmation t.realm t.terms t.wire r (row_at t r) m q ≡ Takes e → TookAs t (calls.Step 6 r 0 0 m 0) e
-  took_confirmation r m w l confirmations.Other i v = not_refused v
-  took_confirmation r m w l (confirmations.Is ta k) i v =
-      let p = need_takes (eqb ta (row_at t r).ta && eqb k (row_at t r).k) _ _ v in
+  pub took_confirmation : (r m : ℕ) → Meets t r Initiator Authenticated → m < t.realm.terms → (q : Option Confirmation) → confirmation_in (message_at t.terms m) ≡ q
+      → {e : Effect} → on_confirmation t.realm t.terms t.wire r (row_at t r) m q ≡ Ok e → TookAs t (calls.Step 6 r 0 0 m 0) e
+  took_confirmation r m w l None i v = not_refused v
+  took_confirmation r m w l (Some q) i v =
+      let p = need_takes (eqb q.ta (row_at t r).ta && eqb q.k (row_at t r).k) _ _ v in
       let d = need_takes (can m) _ _ p.1 in
       let j = need_takes (ticket_lives t.realm (row_at t r).ts) _ _ d.1 in
-      let f = five true true true (eqb ta (row_at t r).ta) (eqb k (row_at t r).k) p.0 in
-      let own = same (eqb-true ta (row_at t r).ta f.fourth) (eqb-true k (row_at t r).k f.fifth) in
+      let f = five true true true (eqb q.ta (row_at t r).ta) (eqb q.k (row_at t r).k) p.0 in
+      let own = same (eqb-true q.ta (row_at t r).ta f.fourth) (eqb-true q.k (row_at t r).k f.fifth) in
       subst (TookAs t (calls.Step 6 r 0 0 m 0)) (same_effect j.1)
-      (took_as (took6 w (brings m _ l ((is_confirmation (message_at t.terms m) ta k).0 i ∙ own) d.0) (ltb-true _ _ j.0)))
+      (took_as (took6 w (brings m _ l ((is_confirmation (message_at t.terms m) q).0 i ∙ own) d.0) (ltb-true _ _ j.0)))
     where
-      same : {ta' k' : ℕ} → ta ≡ ta' → k ≡ k' → confirmation ta k ≡ confirmation ta' k'
+      same : {ta' k' : ℕ} → q.ta ≡ ta' → q.k ≡ k' → confirmation q.ta q.k ≡ confirmation ta' k'
       same x y = cc
 
 -- ---- 20
 
 -- a step that is taken was taken by its row of the step table, and its terms fit
-pub decision_takes : (t : Tables) (s : Step) {x : Effect} → decision t s ≡ Takes x → (decided t s ≡ Takes x) × (fits_in t.terms t.realm.terms (messages_of t.terms x.sends) ≡ true)
+pub decision_takes : (t : Tables) (s : Step) {x : Effect} → decision t s ≡ Ok x → (decided t s ≡ Ok x) × (fits_in t.terms t.realm.terms (messages_of t.terms x.sends) ≡ true)
 unfolding decision
 decision_takes t s {x} d = by (decided t s) d
   where
-    by : (v : Verdict) → roomed t v ≡ Takes x → (v ≡ Takes x) × (fits_in t.terms t.realm.terms (messages_of t.terms x.sends) ≡ true)
-    by (Refused k) e = not_refused e
-    by (Takes y) e =
-        let q = need_takes (fits_in t.terms t.realm.terms (messages_of t.terms y.sends)) 20 (Takes y) e in
+    by : (v : Verdict) → roomed t v ≡ Ok x → (v ≡ Ok x) × (fits_in t.terms t.realm.terms (messages_of t.terms x.sends) ≡ true)
+    by (Err k) e = not_refused e
+    by (Ok y) e =
+        let q = need_takes (fits_in t.terms t.realm.terms (messages_of t.terms y.sends)) 20 (Ok y) e in
         (q.1, subst (λ (z : Effect). fits_in t.terms t.realm.terms (messages_of t.terms z.sends) ≡ true) (same_effect q.1) q.0)

@@ -1,23 +1,18 @@
--- `drafts::draft_fits` meets its contract. The invariant: the nodes passed fit. Assumes nothing.
-use borrow.Author.Count.{below_more}
-use Rattle.std.proofs.Common.{rules}
-use mathlib.Core.Path.{sym, ◌∙◌}
+-- `drafts::draft_fits` meets its contract. Assumes nothing.
+use mathlib.Core.Path.{◌≡◌, refl}
+use mathlib.Core.Bool.{true, false}
 use native.Mathlib.Omega.{arith}
-use Rattle.terms.proofs.Choice.{is_false, no_true}
-use Rattle.drafts.proofs.Draft.{fits_at, all_fit}
+use borrow.Author.Tests.{tests}
+use Rattle.std.proofs.Common.{rules}
+use Rattle.std.proofs.lemmas.Iterator.{cases_from_all, YieldsList-from_range}
+use Rattle.terms.proofs.AllOf.{all_is_each}
+use Rattle.drafts.specs.Draft.{node_at, node_fits, draft_fits}
 use Rattle.drafts.proofs.draft_fits.Goals as goal
 
-pub loop-k-init : goal.loop-k-init
-loop-k-init c = (search rules, λ j h. absurd (omega arith))
-
-pub returns-then-not-node_fits : goal.returns-then-not-node_fits
-returns-then-not-node_fits c =
-    let a = c.args in
-    let k = c.loop-k.k in
-    is_false _ (λ e. no_true (sym c.if-not-node_fits.true ∙ c.node_fits.ensures ∙ fits_at a.n a.count a.draft e k (omega arith)))
-
-pub loop-k-preserved : goal.loop-k-preserved
-loop-k-preserved c = (search rules, below_more _ _ c.loop-k.invariant.1 (sym c.node_fits.ensures ∙ c.if-not-node_fits.false))
-
 pub returns : goal.returns
-returns c = let a = c.args in sym (all_fit a.n a.count a.draft (λ k h. c.loop-k.invariant.1 k (omega arith)))
+unfolding draft_fits
+returns c =
+    let a = c.args in
+    all_is_each (λ k. node_fits a.n a.count k (node_at a.draft k)) 16 c.all.result
+    (cases_from_all _ _ _ (λ k. node_fits a.n a.count k (node_at a.draft k) ≡ true) (λ k. node_fits a.n a.count k (node_at a.draft k) ≡ false) c.all.ensures.ran
+    (YieldsList-from_range 0 16 16 refl (omega arith)) (λ x q k. search (rules, tests)) (λ x q k. search (rules, tests)))

@@ -2,7 +2,7 @@
 use Rattle.drafts.proofs.key_word.Goals as goal
 
 pub returns-in-LongTerm : goal.returns-in-LongTerm
-returns-in-LongTerm c = rw c.in-LongTerm.is c.encode.ensures
+returns-in-LongTerm c = rw c.in-LongTerm.is c.from.ensures
 
 pub returns-in-Session : goal.returns-in-Session
-returns-in-Session c = rw c.in-Session.is c.encode-in-Session.ensures
+returns-in-Session c = rw c.in-Session.is c.from-in-Session.ensures

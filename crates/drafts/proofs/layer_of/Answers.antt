@@ -5,13 +5,13 @@ use Prim.Native.Nat.{ℕ}
 use Rattle.drafts.proofs.layer_of.Goals as goal
 
 pub returns-in-Principal : goal.returns-in-Principal
-returns-in-Principal c = rw c.in-Principal.is (ap layers.Atom c.encode.ensures)
+returns-in-Principal c = rw c.in-Principal.is (ap layers.Atom c.from.ensures)
 
 pub returns-in-Time : goal.returns-in-Time
-returns-in-Time c = rw c.in-Time.is (ap layers.Atom c.encode-in-Time.ensures)
+returns-in-Time c = rw c.in-Time.is (ap layers.Atom c.from-in-Time.ensures)
 
 pub returns-in-Nonce : goal.returns-in-Nonce
-returns-in-Nonce c = rw c.in-Nonce.is (ap layers.Atom c.encode-in-Nonce.ensures)
+returns-in-Nonce c = rw c.in-Nonce.is (ap layers.Atom c.from-in-Nonce.ensures)
 
 pub returns-in-Key : goal.returns-in-Key
 returns-in-Key c = rw c.in-Key.is (ap layers.Atom c.key_word.ensures)

@@ -1,6 +1,6 @@
 -- The whole effect, by what the calls gave.
 -- Assumes nothing.
-use Rattle.std.specs.Prelude.{◌≡◌, List, ℕ, ◌+◌}
+use Rattle.std.specs.Prelude.{◌≡◌, List, ℕ, ◌+◌, Ok}
 use Rattle.std.proofs.Math.Path.{sym, ap}
 use Rattle.std.proofs.Common.{◌∙◌, arith}
 use Rattle.std.proofs.Math.Bool.{true}
@@ -10,8 +10,8 @@ use Rattle.messages.specs.Plan as plans
 use Rattle.sending.specs.declared.Prepared.{Prepared}
 use Rattle.sending.proofs.Promises.{room_known, plan_sent, send_room}
 use Rattle.sending.specs.Send.{Sending, sent, refused, marked_by, fits_in}
-use Rattle.exchange.specs.declared.call.Answer.TheVariants.{Ok}
-use Rattle.replay.specs.declared.cache.Swept.{Swept}
+use Rattle.exchange.specs.declared.call.Accepted.TheVariants.{Taken}
+use Rattle.replay.specs.Cache.{Swept}
 use Rattle.realm.specs.Tables.{Tables, tables, Together}
 use Rattle.decisions.specs.declared.Change.{Change}
 use Rattle.decisions.specs.declared.Change.TheVariants as changes
@@ -57,9 +57,9 @@ module _ (t : Tables) (x : Effect) where
         (rows : (rs ≡ changed t.realm.runs x.change t.runs) × (opened ≡ run_count t.realm.runs x.change)) {swept : Swept}
         (kept : swept ≡ cache_of t.realm t.cache x.keeping) where
       pub all_applied : record {
-        answer = Ok x.names r.count;
+        answer = Ok (Taken x.names r.count);
         tables = tables (realm_after t.realm x.clock (t.realm.terms + r.count) opened swept.count) ts rs ws swept.places;
       } ≡ applied t x
       all_applied =
-          let grown : (applied_with t x (t.realm.terms + r.count) ts ws).answer ≡ Ok x.names r.count = ap (Ok x.names) (omega arith) in
+          let grown : (applied_with t x (t.realm.terms + r.count) ts ws).answer ≡ Ok (Taken x.names r.count) = ap (λ (k : ℕ). Ok (Taken x.names k)) (omega arith) in
           rw (← plan_applied, ← kept, sent.0, sent.1, rows.0, rows.1, grown)

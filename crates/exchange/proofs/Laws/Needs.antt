@@ -1,26 +1,13 @@
--- The constant table by its laws: a number that is no step needs nothing, and a row that meets a need has its role and stage.
+-- A row that meets a need has its role and stage.
 -- Assumes nothing.
-use Rattle.std.specs.Prelude.{ℕ, ◌<◌, ◌≡◌, refl, Bool, true, eqb}
+use Rattle.std.specs.Prelude.{◌≡◌, refl, true, eqb}
 use Rattle.std.proofs.Math.Bool.{and-eq-true_iff}
-use Rattle.std.proofs.Math.ListN.{get_or-eq_default}
 use Rattle.exchange.specs.declared.run.Role.{Role}
 use Rattle.exchange.specs.declared.run.Role.TheVariants.{Initiator, Responder, Server}
 use Rattle.exchange.specs.declared.run.Stage.{Stage}
 use Rattle.exchange.specs.declared.run.Stage.TheVariants.{Opened, Authenticated, Done}
 use Rattle.exchange.specs.declared.run.Row.{Row}
-use Rattle.exchange.specs.declared.need.Need.{Need}
-use Rattle.exchange.specs.declared.need.Need.TheVariants.{Nothing, Of}
-use Rattle.exchange.specs.Needs.{need_table, need_of, role_number, stage_number, is_at, meets}
-
--- ---- the table
-
--- A number that is no step needs nothing.
-pub need_of_past : (step : ℕ) → 10 < step → need_of step ≡ Nothing
-unfolding need_table
-need_of_past step h = get_or-eq_default need_table Nothing h
-
-pub meets_of : (need : Need) (x : Row) (role : Role) (stage : Stage) {r : Bool} → need ≡ Of role stage → r ≡ is_at x role stage → r ≡ meets need x
-meets_of need x role stage e h = rw e h
+use Rattle.exchange.specs.Needs.{role_number, stage_number, is_at}
 
 -- ---- a row at a role and stage
 

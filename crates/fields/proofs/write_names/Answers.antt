@@ -8,15 +8,15 @@ use Rattle.fields.proofs.Placed.{wrote_as}
 use Rattle.std.proofs.Common.{rules}
 use Rattle.fields.proofs.write_names.Goals as goal
 
-pub returns-in-Run : goal.returns-in-Run
+pub returns-in-Some : goal.returns-in-Some
 unfolding names_text
-returns-in-Run c =
-    let e = c.in-Run.is in
+returns-in-Some c =
+    let e = c.in-Some.is in
     let w = wrote_as (sym (ap names_text e)) c.write_field.ensures.0 in
     (w, omega (arith, w.offset, names_short c.args.names (subst NarrowNames (sym e) (search rules))))
 
-pub returns-in-Nobody : goal.returns-in-Nobody
+pub returns-in-None : goal.returns-in-None
 unfolding names_text
-returns-in-Nobody c =
+returns-in-None c =
     let w = c.write_text.ensures in
-    (wrote_as (sym (ap names_text c.in-Nobody.is)) w, omega (arith, w.offset))
+    (wrote_as (sym (ap names_text c.in-None.is)) w, omega (arith, w.offset))

@@ -1,41 +1,20 @@
 -- `forms::open_authenticator` meets its contract: one way out for each layer of the chain, and one through. Assumes nothing.
-use mathlib.Core.Path.{refl, sym, ◌∙◌}
-use native.Mathlib.Omega.{arith}
-use Rattle.forms.proofs.DeliveryLaws.{authenticator_read}
-use Rattle.layers.specs.Layers.{TIME}
-use Rattle.layers.proofs.Laws.Layers.{stops, goes}
-use Rattle.layers.proofs.Laws.Present.{atom_here, opens}
-use Rattle.layers.proofs.Laws.Ways.{not_atom}
-use borrow.Enum.Refused.{opened}
+use Rattle.layers.specs.Layers.{◌▸◌}
+use Rattle.forms.specs.Delivery.{authenticator_in}
 use Rattle.forms.proofs.open_authenticator.Goals as goal
 
-pub returns-in_default : goal.returns-in_default
-returns-in_default c =
-    let last = stops _ _ _ (opens c.in_default.is _ _ _ c.under_session_key.ensures) in
-    authenticator_read _ last
+pub returns-in_err-k : goal.returns-in_err-k
+unfolding authenticator_in ◌▸◌
+returns-in_err-k c = rw (c.from_residual.ensures, c.in_err-k.ensures)
 
-pub principal_first-requires : goal.principal_first-requires
-principal_first-requires c = (opens c.in-Value.is _ _ _ c.under_session_key.ensures).1
+pub returns-in_err-a : goal.returns-in_err-a
+unfolding authenticator_in ◌▸◌
+returns-in_err-a c = rw (c.from_residual-in_err-a.ensures, c.in_ok-k.ensures.0, c.in_err-a.ensures)
 
-pub returns-in_default-principal_first : goal.returns-in_default-principal_first
-returns-in_default-principal_first c =
-    let x₁ = opens c.in-Value.is _ _ _ c.under_session_key.ensures in
-    let last = stops _ _ _ (opens c.in_default-principal_first.is _ _ _ c.principal_first.ensures) in
-    authenticator_read _ (goes _ _ _ x₁.0 last)
-
-pub term_at-requires : goal.term_at-requires
-term_at-requires c = (opens c.in-Value-principal_first.is _ _ _ c.principal_first.ensures).1
-
-pub returns-in_default-term_at : goal.returns-in_default-term_at
-returns-in_default-term_at c =
-    let x₁ = opens c.in-Value.is _ _ _ c.under_session_key.ensures in
-    let x₂ = opens c.in-Value-principal_first.is _ _ _ c.principal_first.ensures in
-    let last = not_atom x₂.1 c.term_at.ensures TIME (omega arith) (opened c.in_default-term_at.in_default-term_at-own.keys2) in
-    authenticator_read _ (goes _ _ _ x₁.0 (goes _ _ _ x₂.0 last))
+pub returns-in_err-ta : goal.returns-in_err-ta
+unfolding authenticator_in ◌▸◌
+returns-in_err-ta c = rw (c.from_residual-in_err-ta.ensures, c.in_ok-k.ensures.0, c.in_ok-a.ensures.0, ← c.in_err-ta.ensures)
 
 pub returns : goal.returns
-returns c =
-    let x₁ = opens c.in-Value.is _ _ _ c.under_session_key.ensures in
-    let x₂ = opens c.in-Value-principal_first.is _ _ _ c.principal_first.ensures in
-    let last = atom_here x₂.1 (sym c.in-Time.is ∙ c.term_at.ensures) TIME refl in
-    authenticator_read _ (goes _ _ _ x₁.0 (goes _ _ _ x₂.0 last))
+unfolding authenticator_in ◌▸◌
+returns c = rw (c.in_ok-k.ensures.0, c.in_ok-a.ensures.0, ← c.in_ok-ta.ensures)

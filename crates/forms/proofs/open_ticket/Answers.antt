@@ -1,53 +1,24 @@
 -- `forms::open_ticket` meets its contract: one way out for each layer of the chain, and one through. Assumes nothing.
-use mathlib.Core.Path.{refl, sym, ◌∙◌}
-use native.Mathlib.Omega.{arith}
-use Rattle.forms.proofs.DeliveryLaws.{ticket_read}
-use Rattle.layers.specs.Layers.{TIME}
-use Rattle.layers.proofs.Laws.Layers.{stops, goes}
-use Rattle.layers.proofs.Laws.Present.{atom_here, opens}
-use Rattle.layers.proofs.Laws.Ways.{not_atom}
-use borrow.Enum.Refused.{opened}
+use Rattle.layers.specs.Layers.{◌▸◌}
+use Rattle.forms.specs.Delivery.{ticket_in}
 use Rattle.forms.proofs.open_ticket.Goals as goal
 
-pub returns-in_default : goal.returns-in_default
-returns-in_default c =
-    let last = stops _ _ _ (opens c.in_default.is _ _ _ c.under_long_term_key.ensures) in
-    ticket_read _ last
+pub returns-in_err-b : goal.returns-in_err-b
+unfolding ticket_in ◌▸◌
+returns-in_err-b c = rw (c.from_residual.ensures, c.in_err-b.ensures)
 
-pub session_key_first-requires : goal.session_key_first-requires
-session_key_first-requires c = (opens c.in-Value.is _ _ _ c.under_long_term_key.ensures).1
+pub returns-in_err-k : goal.returns-in_err-k
+unfolding ticket_in ◌▸◌
+returns-in_err-k c = rw (c.from_residual-in_err-k.ensures, c.in_ok-b.ensures.0, c.in_err-k.ensures)
 
-pub returns-in_default-session_key_first : goal.returns-in_default-session_key_first
-returns-in_default-session_key_first c =
-    let x₁ = opens c.in-Value.is _ _ _ c.under_long_term_key.ensures in
-    let last = stops _ _ _ (opens c.in_default-session_key_first.is _ _ _ c.session_key_first.ensures) in
-    ticket_read _ (goes _ _ _ x₁.0 last)
+pub returns-in_err-a : goal.returns-in_err-a
+unfolding ticket_in ◌▸◌
+returns-in_err-a c = rw (c.from_residual-in_err-a.ensures, c.in_ok-b.ensures.0, c.in_ok-k.ensures.0, c.in_err-a.ensures)
 
-pub principal_first-requires : goal.principal_first-requires
-principal_first-requires c = (opens c.in-Value-session_key_first.is _ _ _ c.session_key_first.ensures).1
-
-pub returns-in_default-principal_first : goal.returns-in_default-principal_first
-returns-in_default-principal_first c =
-    let x₁ = opens c.in-Value.is _ _ _ c.under_long_term_key.ensures in
-    let x₂ = opens c.in-Value-session_key_first.is _ _ _ c.session_key_first.ensures in
-    let last = stops _ _ _ (opens c.in_default-principal_first.is _ _ _ c.principal_first.ensures) in
-    ticket_read _ (goes _ _ _ x₁.0 (goes _ _ _ x₂.0 last))
-
-pub term_at-requires : goal.term_at-requires
-term_at-requires c = (opens c.in-Value-principal_first.is _ _ _ c.principal_first.ensures).1
-
-pub returns-in_default-term_at : goal.returns-in_default-term_at
-returns-in_default-term_at c =
-    let x₁ = opens c.in-Value.is _ _ _ c.under_long_term_key.ensures in
-    let x₂ = opens c.in-Value-session_key_first.is _ _ _ c.session_key_first.ensures in
-    let x₃ = opens c.in-Value-principal_first.is _ _ _ c.principal_first.ensures in
-    let last = not_atom x₃.1 c.term_at.ensures TIME (omega arith) (opened c.in_default-term_at.in_default-term_at-own.keys2) in
-    ticket_read _ (goes _ _ _ x₁.0 (goes _ _ _ x₂.0 (goes _ _ _ x₃.0 last)))
+pub returns-in_err-ts : goal.returns-in_err-ts
+unfolding ticket_in ◌▸◌
+returns-in_err-ts c = rw (c.from_residual-in_err-ts.ensures, c.in_ok-b.ensures.0, c.in_ok-k.ensures.0, c.in_ok-a.ensures.0, ← c.in_err-ts.ensures)
 
 pub returns : goal.returns
-returns c =
-    let x₁ = opens c.in-Value.is _ _ _ c.under_long_term_key.ensures in
-    let x₂ = opens c.in-Value-session_key_first.is _ _ _ c.session_key_first.ensures in
-    let x₃ = opens c.in-Value-principal_first.is _ _ _ c.principal_first.ensures in
-    let last = atom_here x₃.1 (sym c.in-Time.is ∙ c.term_at.ensures) TIME refl in
-    ticket_read _ (goes _ _ _ x₁.0 (goes _ _ _ x₂.0 (goes _ _ _ x₃.0 last)))
+unfolding ticket_in ◌▸◌
+returns c = rw (c.in_ok-b.ensures.0, c.in_ok-k.ensures.0, c.in_ok-a.ensures.0, ← c.in_ok-ts.ensures)

@@ -7,15 +7,15 @@ use Rattle.judging.proofs.Laws.{has_room}
 use Rattle.judging.proofs.judge.Goals as goal
 
 pub slice_bounds-out-end : goal.slice_bounds-out-end
-slice_bounds-out-end c = (counts _ _ _ _ c.in-Written.ensures).0
+slice_bounds-out-end c = (counts _ _ _ _ c.in-Some.ensures).0
 
 pub slice_bounds-first_difference-end : goal.slice_bounds-first_difference-end
-slice_bounds-first_difference-end c = (counts _ _ _ _ c.in-Written.ensures).1
+slice_bounds-first_difference-end c = (counts _ _ _ _ c.in-Some.ensures).1
 
-pub returns-in-NoRoom : goal.returns-in-NoRoom
-returns-in-NoRoom c =
-    absurd (has_room _ (replicate 224758 0) _ (omega (arith, length-replicate {A = ℕ} 224758 0)) c.in-NoRoom.ensures)
+pub returns-in-None : goal.returns-in-None
+returns-in-None c =
+    absurd (has_room _ (replicate 224758 0) _ (omega (arith, length-replicate {A = ℕ} 224758 0)) c.in-None.ensures)
 
-pub returns-in-Written : goal.returns-in-Written
-returns-in-Written c =
-    c.first_difference.ensures ∙ ap (λ (xs : List ℕ). difference 1 xs c.args.stored.now) (start_is _ _ _ _ c.in-Written.ensures)
+pub returns-in-Some : goal.returns-in-Some
+returns-in-Some c =
+    c.first_difference.ensures ∙ ap (λ (xs : List ℕ). difference 1 xs c.args.stored.now) (start_is _ _ _ _ c.in-Some.ensures)

@@ -2,14 +2,13 @@
 -- something to say. Under HD and HW a TM joins the ticket and the authenticator for step 5; under H5 and H4 the initiator sends
 -- the two as one term, and no term is joined by hand.
 -- Assumes nothing.
-use Rattle.std.specs.Prelude.{refl, [], ◌∷◌}
+use Rattle.std.specs.Prelude.{refl, [], ◌∷◌, Some, Ok}
 use Rattle.std.proofs.Common.{arith}
 use Rattle.std.proofs.Math.Decide.{ℕ_discrete}
 use Rattle.terms.specs.Message.{nonce}
 use Rattle.deduction.specs.Derives.{on_wire, join}
 use Rattle.exchange.specs.declared.call.Call.TheVariants.{Term, Step}
-use Rattle.exchange.specs.declared.call.Names.TheVariants.{Run}
-use Rattle.exchange.specs.declared.call.Answer.TheVariants.{New, Ok}
+use Rattle.exchange.specs.declared.call.Accepted.TheVariants.{New, Taken}
 use Rattle.traces.specs.Lists.{here, there, now}
 use Rattle.exchange.specs.declared.form.Form.{Form}
 use Rattle.exchange.specs.declared.form.Form.TheVariants.{Parallel, Kerberos5, Kerberos4}
@@ -26,22 +25,22 @@ use Rattle.traces.proofs.Sample.{realm, header_of, good, apart, le, nowhere}
 -- HD and HW, the newest first: step 4 takes term 11, the reply, and step 5 the ticket and the authenticator, 15 and 16
 abbrev joined : History
 joined =
-    (Step 5 2 0 0 17 0, Ok (Run 2) 1)
-    ∷ (Term 5 15 16, New 17)
-    ∷ (Step 2 0 1 2 0 0, Ok (Run 2) 0)
-    ∷ (Step 4 0 0 0 11 0, Ok (Run 0) 1)
-    ∷ (Step 3 0 0 0 4 0, Ok (Run 1) 11)
-    ∷ (Step 1 0 1 2 0 0, Ok (Run 0) 5)
+    (Step 5 2 0 0 17 0, Ok (Taken (Some 2) 1))
+    ∷ (Term 5 15 16, Ok (New 17))
+    ∷ (Step 2 0 1 2 0 0, Ok (Taken (Some 2) 0))
+    ∷ (Step 4 0 0 0 11 0, Ok (Taken (Some 0) 1))
+    ∷ (Step 3 0 0 0 4 0, Ok (Taken (Some 1) 11))
+    ∷ (Step 1 0 1 2 0 0, Ok (Taken (Some 0) 5))
     ∷ []
 
 -- H5 and H4: step 4 takes term 16, what step 3 sent, and step 5 term 18, what step 4 sent
 abbrev carried : History
 carried =
-    (Step 5 2 0 0 18 0, Ok (Run 2) 1)
-    ∷ (Step 2 0 1 2 0 0, Ok (Run 2) 0)
-    ∷ (Step 4 0 0 0 16 0, Ok (Run 0) 2)
-    ∷ (Step 3 0 0 0 4 0, Ok (Run 1) 12)
-    ∷ (Step 1 0 1 2 0 0, Ok (Run 0) 5)
+    (Step 5 2 0 0 18 0, Ok (Taken (Some 2) 1))
+    ∷ (Step 2 0 1 2 0 0, Ok (Taken (Some 2) 0))
+    ∷ (Step 4 0 0 0 16 0, Ok (Taken (Some 0) 2))
+    ∷ (Step 3 0 0 0 4 0, Ok (Taken (Some 1) 12))
+    ∷ (Step 1 0 1 2 0 0, Ok (Taken (Some 0) 5))
     ∷ []
 
 abbrev pub accepting : Form → History

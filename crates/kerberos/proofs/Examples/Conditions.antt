@@ -1,14 +1,13 @@
 -- Each condition of the theorem is needed: lists of calls that the rules allow, at whose end a run of 2 accepts 1 though there
 -- is no initiator run at all, because the key has leaked, because 1 is bad, or because 2 is.
 -- Assumes nothing.
-use Rattle.std.specs.Prelude.{ℕ, ◌%◌, ◌≤◌, ◌≡◌, refl, [], ◌∷◌}
+use Rattle.std.specs.Prelude.{ℕ, ◌%◌, ◌≤◌, ◌≡◌, refl, [], ◌∷◌, Some, Ok}
 use Rattle.std.proofs.Common.{arith}
 use Rattle.std.proofs.Math.Decide.{ℕ_discrete}
 use Rattle.marks.specs.Bits.{bit}
 use Rattle.deduction.specs.Derives.{Own, Bad, on_wire, a_principal, a_time, bad_key, own_nonce, own_key, left, decrypt, join, encrypt}
 use Rattle.exchange.specs.declared.call.Call.TheVariants.{Term, Step}
-use Rattle.exchange.specs.declared.call.Names.TheVariants.{Run}
-use Rattle.exchange.specs.declared.call.Answer.TheVariants.{New, Ok}
+use Rattle.exchange.specs.declared.call.Accepted.TheVariants.{New, Taken}
 use Rattle.traces.specs.Realm.{Realm}
 use Rattle.traces.specs.Lists.{here, there}
 use Rattle.exchange.specs.declared.form.Form.TheVariants.{Parallel}
@@ -32,12 +31,12 @@ own64 = record { low = omega arith; high = omega arith }
 
 abbrev pub asked : History
 asked =
-    (Step 3 0 0 0 4 0, Ok (Run 0) 11)
-    ∷ (Term 5 0 3, New 4)
-    ∷ (Term 5 1 2, New 3)
-    ∷ (Term 2 64 0, New 2)
-    ∷ (Term 0 2 0, New 1)
-    ∷ (Term 0 1 0, New 0)
+    (Step 3 0 0 0 4 0, Ok (Taken (Some 0) 11))
+    ∷ (Term 5 0 3, Ok (New 4))
+    ∷ (Term 5 1 2, Ok (New 3))
+    ∷ (Term 2 64 0, Ok (New 2))
+    ∷ (Term 0 2 0, Ok (New 1))
+    ∷ (Term 0 1 0, Ok (New 0))
     ∷ []
 
 lawful_asked : (flags : ℕ) → flags ≤ 4 → flags % 2 ≡ 0 → Lawful Parallel (realm_of flags) asked
@@ -54,16 +53,16 @@ lawful_asked flags h e =
 -- the intruder's authenticator with that key is term 16
 abbrev delivered : History → History
 delivered h =
-    (Step 5 1 0 0 17 0, Ok (Run 1) 1)
-    ∷ (Term 5 15 16, New 17)
-    ∷ (Term 6 12 5, New 16)
-    ∷ (Step 2 0 1 2 0 0, Ok (Run 1) 0)
+    (Step 5 1 0 0 17 0, Ok (Taken (Some 1) 1))
+    ∷ (Term 5 15 16, Ok (New 17))
+    ∷ (Term 6 12 5, Ok (New 16))
+    ∷ (Step 2 0 1 2 0 0, Ok (Taken (Some 1) 0))
     ∷ h
 
 -- ---- the key has leaked
 
 abbrev pub leaked : History
-leaked = delivered ((Step 9 0 0 0 0 0, Ok (Run 0) 0) ∷ asked)
+leaked = delivered ((Step 9 0 0 0 0 0, Ok (Taken (Some 0) 0)) ∷ asked)
 
 leaked_none : {i a b : ℕ} → ¬ (Initiator (log Parallel leaked) i a b)
 unfolding ℕ_discrete
@@ -119,17 +118,17 @@ good_a_needed = record {
 
 abbrev pub bad_b : History
 bad_b =
-    (Step 5 0 0 0 8 0, Ok (Run 0) 1)
-    ∷ (Step 2 0 1 2 0 0, Ok (Run 0) 0)
-    ∷ (Term 5 6 7, New 8)
-    ∷ (Term 6 2 3, New 7)
-    ∷ (Term 6 4 5, New 6)
-    ∷ (Term 3 2 0, New 5)
-    ∷ (Term 5 3 2, New 4)
-    ∷ (Term 4 64 0, New 3)
-    ∷ (Term 5 0 1, New 2)
-    ∷ (Term 1 0 0, New 1)
-    ∷ (Term 0 1 0, New 0)
+    (Step 5 0 0 0 8 0, Ok (Taken (Some 0) 1))
+    ∷ (Step 2 0 1 2 0 0, Ok (Taken (Some 0) 0))
+    ∷ (Term 5 6 7, Ok (New 8))
+    ∷ (Term 6 2 3, Ok (New 7))
+    ∷ (Term 6 4 5, Ok (New 6))
+    ∷ (Term 3 2 0, Ok (New 5))
+    ∷ (Term 5 3 2, Ok (New 4))
+    ∷ (Term 4 64 0, Ok (New 3))
+    ∷ (Term 5 0 1, Ok (New 2))
+    ∷ (Term 1 0 0, Ok (New 1))
+    ∷ (Term 0 1 0, Ok (New 0))
     ∷ []
 
 bad_b_none : {i a b : ℕ} → ¬ (Initiator (log Parallel bad_b) i a b)

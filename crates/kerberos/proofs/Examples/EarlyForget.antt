@@ -2,14 +2,13 @@
 -- 9, the last tick of the authenticator's life, b's entries are purged, and the message is delivered to another run. The cache
 -- of the rules still has the entry; one that forgets a tick early has not, and all else that step 5 asks for holds.
 -- Assumes nothing.
-use Rattle.std.specs.Prelude.{suc, ◌<◌, ◌≡◌, refl, List, [], ◌∷◌, length}
+use Rattle.std.specs.Prelude.{suc, ◌<◌, ◌≡◌, refl, List, [], ◌∷◌, length, Some, None, Ok}
 use Rattle.std.proofs.Math.Option.{some}
 use Rattle.std.proofs.Math.Decide.{ℕ_discrete}
 use Rattle.terms.specs.Message.{pair}
 use Rattle.deduction.specs.Derives.{on_wire, join}
 use Rattle.exchange.specs.declared.call.Call.TheVariants.{Step}
-use Rattle.exchange.specs.declared.call.Names.TheVariants.{Run, Nobody}
-use Rattle.exchange.specs.declared.call.Answer.TheVariants.{Ok}
+use Rattle.exchange.specs.declared.call.Accepted.TheVariants.{Taken}
 use Rattle.traces.specs.Realm.{Realm}
 use Rattle.traces.specs.Lists.{◌∈◌, here, there}
 use Rattle.exchange.specs.declared.form.Form.TheVariants.{Parallel}
@@ -30,7 +29,7 @@ early R ((e, ms) ∷ l) = cache_after R (suc (clock l)) e (early R l)
 
 -- "B: Ta 0, La 10: clock 9 passes"
 abbrev pub purged : History
-purged = (Step 2 0 1 2 0 0, Ok (Run 3) 0) ∷ (Step 8 0 0 2 0 0, Ok Nobody 0) ∷ (Step 7 0 0 0 0 9, Ok Nobody 0) ∷ accepting Parallel
+purged = (Step 2 0 1 2 0 0, Ok (Taken (Some 3) 0)) ∷ (Step 8 0 0 2 0 0, Ok (Taken None 0)) ∷ (Step 7 0 0 0 0 9, Ok (Taken None 0)) ∷ accepting Parallel
 
 pub lawful_purged : Lawful Parallel realm purged
 unfolding ℕ_discrete

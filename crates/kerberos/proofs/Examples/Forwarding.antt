@@ -1,14 +1,13 @@
 -- The ticket goes through the initiator, unopened (02, change 6): what the calls of case F did and sent under H5 and under H4, and
 -- that the initiator passes on "any term X" that stands in the ticket's place.
 -- Assumes nothing.
-use Rattle.std.specs.Prelude.{ℕ, ◌≡◌, refl, List, [], ◌∷◌}
+use Rattle.std.specs.Prelude.{ℕ, ◌≡◌, refl, List, [], ◌∷◌, Some, Ok}
 use Rattle.std.proofs.Common.{arith}
 use Rattle.std.proofs.Math.Decide.{ℕ_discrete}
 use Rattle.terms.specs.Message.{Message, principal, nonce, pair}
 use Rattle.deduction.specs.Derives.{on_wire, a_principal, a_time, bad_key, own_key, left, right, join, encrypt}
 use Rattle.exchange.specs.declared.call.Call.TheVariants.{Term, Step}
-use Rattle.exchange.specs.declared.call.Names.TheVariants.{Run}
-use Rattle.exchange.specs.declared.call.Answer.TheVariants.{New, Ok}
+use Rattle.exchange.specs.declared.call.Accepted.TheVariants.{New, Taken}
 use Rattle.exchange.specs.declared.form.Form.{Form}
 use Rattle.exchange.specs.declared.form.Form.TheVariants.{Kerberos5, Kerberos4}
 use Rattle.traces.specs.Realm.{Realm}
@@ -53,10 +52,10 @@ pub record PassedOn (f : Form) (R : Realm) (h : History) (k : ℕ) : Type 0 wher
 -- H5: the intruder takes the server's pair apart, and joins the reply with another term.
 abbrev pub swapped : History
 swapped =
-    (Step 4 0 0 0 17 0, Ok (Run 0) 2)
-    ∷ (Term 5 11 0, New 17)
-    ∷ (Step 3 0 0 0 4 0, Ok (Run 1) 12)
-    ∷ (Step 1 0 1 2 0 0, Ok (Run 0) 5)
+    (Step 4 0 0 0 17 0, Ok (Taken (Some 0) 2))
+    ∷ (Term 5 11 0, Ok (New 17))
+    ∷ (Step 3 0 0 0 4 0, Ok (Taken (Some 1) 12))
+    ∷ (Step 1 0 1 2 0 0, Ok (Taken (Some 0) 5))
     ∷ []
 
 pub passed_on5 : PassedOn Kerberos5 realm swapped 1
@@ -76,16 +75,16 @@ passed_on5 = record {
 -- H4: X stands inside the reply; here the initiator is bad, and the intruder makes the reply himself.
 abbrev pub forged : History
 forged =
-    (Step 4 0 0 0 12 0, Ok (Run 0) 3)
-    ∷ (Term 6 11 7, New 12)
-    ∷ (Term 5 6 10, New 11)
-    ∷ (Term 5 1 9, New 10)
-    ∷ (Term 5 5 8, New 9)
-    ∷ (Term 5 2 0, New 8)
-    ∷ (Term 3 1 0, New 7)
-    ∷ (Term 4 64 0, New 6)
-    ∷ (Term 1 0 0, New 5)
-    ∷ (Step 1 0 1 2 0 0, Ok (Run 0) 5)
+    (Step 4 0 0 0 12 0, Ok (Taken (Some 0) 3))
+    ∷ (Term 6 11 7, Ok (New 12))
+    ∷ (Term 5 6 10, Ok (New 11))
+    ∷ (Term 5 1 9, Ok (New 10))
+    ∷ (Term 5 5 8, Ok (New 9))
+    ∷ (Term 5 2 0, Ok (New 8))
+    ∷ (Term 3 1 0, Ok (New 7))
+    ∷ (Term 4 64 0, Ok (New 6))
+    ∷ (Term 1 0 0, Ok (New 5))
+    ∷ (Step 1 0 1 2 0 0, Ok (Taken (Some 0) 5))
     ∷ []
 
 pub passed_on4 : PassedOn Kerberos4 (realm_of 2) forged 64

@@ -1,36 +1,29 @@
 -- Laws of the layers. `Reads` and `Layer` say exactly which messages a form and a layer have; `stops` and `goes` are the ways
 -- out of a chain.
 -- Assumes nothing.
-use Rattle.std.specs.Prelude.{◌↔◌, ◌≡◌, refl, ℕ, zero, suc, ◌<◌, eqb}
-use Rattle.std.proofs.Math.Option.{Option, none, some}
-use Rattle.std.proofs.Common.{sym, ap₂, ◌∙◌, arith, eqb-true, eq-eqb, ne_eqb}
-use Rattle.std.proofs.Math.Path.{ap}
-use Rattle.traces.specs.Terms.{given}
-use Rattle.terms.proofs.Choice.{cond_first}
+use Rattle.std.specs.Prelude.{◌↔◌, ◌≡◌, refl, ℕ, zero, suc, ◌<◌, eqb, Option, None, Some, option_and_then, option_map}
+use Rattle.std.proofs.Common.{sym, ap, ap₂, ◌∙◌, arith, eqb-true, eq-eqb, ne_eqb}
+use Rattle.std.proofs.lemmas.Option.{none-some, same_Some, cond_some}
 use Rattle.terms.specs.Meaning.{key_of}
 use Rattle.terms.specs.Message.{long_term, session, Message, principal, time, nonce, key, pair, encrypted}
 use Rattle.layers.specs.Layers.{PRINCIPAL, TIME, NONCE, LONG_TERM_KEY, SESSION_KEY, PAIR, ENCRYPTED, kind, number, operands, of_kind, atom, layer, first, under, after, ◌▸◌}
 
 -- ---- what is of a kind
 
-not_some : {A : Type 0} {x : A} → none ≡ some x → ⊥
-not_some e = let z : ◌≡◌ {A = ℕ} 0 1 = cc in omega arith
-
 module _ {A : Type 0} (f : Message → A) where
-  pub of_kind_lem : (k : ℕ) (m : Message) → kind m ≡ k → of_kind k f m ≡ some (f m)
+  pub of_kind_lem : (k : ℕ) (m : Message) → kind m ≡ k → of_kind k f m ≡ Some (f m)
   unfolding of_kind
   of_kind_lem k m e = rw (eq-eqb (kind m) k e)
 
-  pub of_other : (k : ℕ) (m : Message) → (kind m ≡ k → ⊥) → of_kind k f m ≡ none
+  pub of_other : (k : ℕ) (m : Message) → (kind m ≡ k → ⊥) → of_kind k f m ≡ None
   unfolding of_kind
   of_other k m h = rw (ne_eqb (kind m) k h)
 
-  pub kind_is : (k : ℕ) (m : Message) (x : A) → of_kind k f m ≡ some x → (kind m ≡ k) × (f m ≡ x)
+  pub kind_is : (k : ℕ) (m : Message) (x : A) → of_kind k f m ≡ Some x → (kind m ≡ k) × (f m ≡ x)
   unfolding of_kind
   kind_is k m x e =
-      let p = cond_first (eqb (kind m) k) not_some e in
-      let q = p.1 in
-      (eqb-true (kind m) k p.0, (cc))
+      let p = cond_some (eqb (kind m) k) (f m) x e in
+      (eqb-true (kind m) k p.0, p.1)
 
 -- ---- the message of a kind and a number, or of operands
 
@@ -87,8 +80,8 @@ encrypted_back (encrypted m k) e = refl
 
 -- r reads exactly the messages that `make` makes of values
 pub record Reads {A : Type 0} (r : Message → Option A) (make : A → Message) : Type 0 where
-  pub back : (m : Message) (x : A) → r m ≡ some x → m ≡ make x
-  pub forth : (x : A) → r (make x) ≡ some x
+  pub back : (m : Message) (x : A) → r m ≡ Some x → m ≡ make x
+  pub forth : (x : A) → r (make x) ≡ Some x
 
 pub reads_atom : (k : ℕ) → k < 5 → Reads (atom k) (made k)
 reads_atom k h =
@@ -97,46 +90,41 @@ reads_atom k h =
           let p = kind_is number k m x e in
           let i : kind m < 5 = rw p.0 h in
           sym (made_back m i) ∙ ap₂ made p.0 p.1;
-      forth = λ x. of_kind_lem number k (made k x) (made_kind k x h) ∙ ap some (made_number k x);
+      forth = λ x. of_kind_lem number k (made k x) (made_kind k x h) ∙ ap Some (made_number k x);
     }
 
 -- l reads exactly the messages that `make` makes of a value and a message
 pub record Layer (l : Message → Option (ℕ × Message)) (make : ℕ → Message → Message) : Type 0 where
-  pub back : (m : Message) (v : ℕ) (x : Message) → l m ≡ some (v, x) → m ≡ make v x
-  pub forth : (v : ℕ) (x : Message) → l (make v x) ≡ some (v, x)
+  pub back : (m : Message) (v : ℕ) (x : Message) → l m ≡ Some (v, x) → m ≡ make v x
+  pub forth : (v : ℕ) (x : Message) → l (make v x) ≡ Some (v, x)
 
--- what is not the default came of a value
-pub given_back : {A B : Type 0} (o : Option A) (d : B) (f : A → B) (y : B) → (d ≡ y → ⊥) → given o d f ≡ y → (x : A) × (o ≡ some x) × (f x ≡ y)
-given_back none d f y h e = absurd (h e)
-given_back (some x) d f y h e = (x, refl, e)
+-- a value came of a value
+module _ {A B : Type 0} where
+  pub and_then_back : (f : A → Option B) (o : Option A) (y : B) → option_and_then f o ≡ Some y → (x : A) × (o ≡ Some x) × (f x ≡ Some y)
+  and_then_back f None y e = absurd (none-some y e)
+  and_then_back f (Some x) y e = (x, refl, e)
 
-both_same : {A B : Type 0} {a c : A} {b d : B} → ◌≡◌ {A = Option (A × B)} (some (a, b)) (some (c, d)) → (a ≡ c) × (b ≡ d)
-both_same {A} {B} {a} {c} {b} {d} e =
-    let q : ◌≡◌ {A = A × B} (a, b) (c, d) = cc in
-    (ap (λ (p : A × B). p.0) q, ap (λ (p : A × B). p.1) q)
+  pub map_back : (f : A → B) (o : Option A) (y : B) → option_map f o ≡ Some y → (x : A) × (o ≡ Some x) × (f x ≡ y)
+  map_back f None y e = absurd (none-some y e)
+  map_back f (Some x) y e = (x, refl, same_Some (f x) y e)
 
 module _ (outer : ℕ) (value rest : Message × Message → Message) (k : ℕ) (m : Message) where
-  pub no_layer : (kind m ≡ outer → ⊥) → layer outer value rest k m ≡ none
+  pub no_layer : (kind m ≡ outer → ⊥) → layer outer value rest k m ≡ None
   unfolding layer
   no_layer h = rw (of_other operands outer m h)
 
-  pub layer_other : kind m ≡ outer → (kind (value (operands m)) ≡ k → ⊥) → layer outer value rest k m ≡ none
+  pub layer_read : kind m ≡ outer → layer outer value rest k m ≡ option_map (λ v. (v, rest (operands m))) (atom k (value (operands m)))
   unfolding layer
-  layer_other e h = rw (of_kind_lem operands outer m e, of_other number k (value (operands m)) h)
+  layer_read e = rw (of_kind_lem operands outer m e)
 
-  pub layer_some : kind m ≡ outer → (v : ℕ) → atom k (value (operands m)) ≡ some v → layer outer value rest k m ≡ some (v, rest (operands m))
-  unfolding layer
-  layer_some e v a = rw (of_kind_lem operands outer m e, a)
-
-  layer_back : (v : ℕ) (x : Message) → layer outer value rest k m ≡ some (v, x)
-      → (kind m ≡ outer) × (atom k (value (operands m)) ≡ some v) × (rest (operands m) ≡ x)
+  layer_back : (v : ℕ) (x : Message) → layer outer value rest k m ≡ Some (v, x)
+      → (kind m ≡ outer) × (atom k (value (operands m)) ≡ Some v) × (rest (operands m) ≡ x)
   unfolding layer
   layer_back v x e =
-      let p = given_back (of_kind outer operands m) none (λ p. given (atom k (value p)) none (λ v. some (v, rest p))) (some (v, x)) not_some e in
-      let q = given_back (atom k (value p.0)) none (λ v. some (v, rest p.0)) (some (v, x)) not_some p.2 in
+      let p = and_then_back (λ p. option_map (λ v. (v, rest p)) (atom k (value p))) (of_kind outer operands m) (v, x) e in
+      let q = map_back (λ v. (v, rest p.0)) (atom k (value p.0)) (v, x) p.2 in
       let i = kind_is operands outer m p.0 p.1 in
-      let r = both_same q.2 in
-      (i.0, rw i.1 (q.1 ∙ ap some r.0), rw i.1 r.1)
+      (i.0, rw i.1 (q.1 ∙ ap (λ y. Some y.0) q.2), rw i.1 (ap (λ y. y.1) q.2))
 
 pub layer_first : (k : ℕ) → k < 5 → Layer (first k) (λ v x. pair (made k v) x)
 layer_first k h =
@@ -144,7 +132,7 @@ layer_first k h =
       back = λ m v x e.
           let b = layer_back PAIR (λ p. p.0) (λ p. p.1) k m v x e in
           pair_back m b.0 ∙ ap₂ pair ((reads_atom k h).back (operands m).0 v b.1) b.2;
-      forth = λ v x. layer_some PAIR (λ p. p.0) (λ p. p.1) k (pair (made k v) x) refl v ((reads_atom k h).forth v);
+      forth = λ v x. layer_read PAIR (λ p. p.0) (λ p. p.1) k (pair (made k v) x) refl ∙ ap (option_map (λ v. (v, x))) ((reads_atom k h).forth v);
     }
 
 -- only a key can be the second operand of an encryption
@@ -155,29 +143,28 @@ layer_under k h is =
           let b = layer_back ENCRYPTED (λ p. p.1) (λ p. p.0) k m v x e in
           encrypted_back m b.0 ∙ ap₂ (λ (x y : Message). encrypted x (key_of y)) b.2 ((reads_atom k h).back (operands m).1 v b.1);
       forth = λ v x.
-          layer_some ENCRYPTED (λ p. p.1) (λ p. p.0) k (encrypted x (key_of (made k v))) refl v
-          (rw (is v) ((reads_atom k h).forth v));
+          layer_read ENCRYPTED (λ p. p.1) (λ p. p.0) k (encrypted x (key_of (made k v))) refl
+          ∙ ap (option_map (λ v. (v, x))) (ap (atom k) (is v) ∙ (reads_atom k h).forth v);
     }
 
 -- ---- going on with what is left
 
 module _ {A : Type 0} (l : Message → Option (ℕ × Message)) (s : Message → Option A) (m : Message) where
-  pub stops : l m ≡ none → (l ▸ s) m ≡ none
+  pub stops : l m ≡ None → (l ▸ s) m ≡ None
   unfolding ◌▸◌
   stops e = rw e
 
-  pub goes : {v : ℕ} {x : Message} → l m ≡ some (v, x) → {o : Option A} → s x ≡ o → (l ▸ s) m ≡ given o none (λ w. some (v, w))
+  pub goes : {v : ℕ} {x : Message} → l m ≡ Some (v, x) → {o : Option A} → s x ≡ o → (l ▸ s) m ≡ option_map (λ w. (v, w)) o
   unfolding ◌▸◌
   goes e h = rw (e, h)
 
-  after_back : (o : Option (ℕ × Message)) (v : ℕ) (w : A) → after s o ≡ some (v, w) → (x : Message) × (o ≡ some (v, x)) × (s x ≡ some w)
-  after_back none v w e = absurd (not_some e)
-  after_back (some (u, x)) v w e =
-      let p = given_back (s x) none (λ w. some (u, w)) (some (v, w)) not_some e in
-      let r = both_same p.2 in
-      (x, ap (λ (v : ℕ). some (v, x)) r.0, p.1 ∙ ap some r.1)
+  after_back : (o : Option (ℕ × Message)) (v : ℕ) (w : A) → after s o ≡ Some (v, w) → (x : Message) × (o ≡ Some (v, x)) × (s x ≡ Some w)
+  after_back None v w e = absurd (none-some (v, w) e)
+  after_back (Some (u, x)) v w e =
+      let p = map_back (λ w. (u, w)) (s x) (v, w) e in
+      (x, ap (λ y. Some (y.0, x)) p.2, p.1 ∙ ap (λ y. Some y.1) p.2)
 
-  pub goes_back : (v : ℕ) (w : A) → (l ▸ s) m ≡ some (v, w) → (x : Message) × (l m ≡ some (v, x)) × (s x ≡ some w)
+  pub goes_back : (v : ℕ) (w : A) → (l ▸ s) m ≡ Some (v, w) → (x : Message) × (l m ≡ Some (v, x)) × (s x ≡ Some w)
   unfolding ◌▸◌
   goes_back v w e = after_back (l m) v w e
 
@@ -217,8 +204,10 @@ under_session = layer_under SESSION_KEY (omega arith) (λ v. refl)
 
 -- ---- a form and its answer
 
--- where the answer tells the values
-pub exactly : {A R : Type 0} {r : Message → Option A} {make : A → Message} → Reads r make → (of : Option A → R) (x : A) (answer : R)
-    → of (some x) ≡ answer → ((o : Option A) → of o ≡ answer → o ≡ some x) → (m : Message) → (of (r m) ≡ answer) ↔ (m ≡ make x)
-exactly {r = r} R of x answer e inv m =
-    (λ h. R.back m x (inv (r m) h), λ h. rw h (ap of (R.forth x) ∙ e))
+-- where the answer has the values read, and `to` takes them back
+pub exactly : {A R : Type 0} {r : Message → Option A} {make : A → Message} → Reads r make → (of : A → R) (to : R → A)
+    → ((x : A) → to (of x) ≡ x) → ((q : R) → of (to q) ≡ q) → (m : Message) (q : R) → (option_map of (r m) ≡ Some q) ↔ (m ≡ make (to q))
+exactly {r = r} {make} R of to back forth m q = (
+  λ h. let p = map_back of (r m) q h in R.back m p.0 p.1 ∙ ap make (sym (back p.0) ∙ ap to p.2),
+  λ h. rw h (ap (option_map of) (R.forth (to q)) ∙ ap Some (forth q)),
+)

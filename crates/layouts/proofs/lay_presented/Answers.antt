@@ -1,8 +1,7 @@
--- `layouts::lay_presented` meets its contract: the places written are the list of the definition. Assumes nothing.
-use mathlib.Core.Path.{refl}
+-- `layouts::lay_presented` meets its contract: its nodes are those of the definition. Assumes nothing.
 use Rattle.layouts.specs.Drafts.{presented_draft}
 use Rattle.layouts.proofs.lay_presented.Goals as goal
 
 pub returns : goal.returns
 unfolding presented_draft
-returns c = refl
+returns c = c.draft.ensures

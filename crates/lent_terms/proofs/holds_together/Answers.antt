@@ -1,38 +1,25 @@
--- `lent_terms::holds_together` meets its contract. The invariant: each term passed stands. Assumes nothing.
-use borrow.Author.Count.{below_more}
-use Rattle.std.proofs.Common.{rules}
-use mathlib.Core.Path.{sym, ◌∙◌}
+-- `lent_terms::holds_together` meets its contract. Assumes nothing.
+use mathlib.Core.Path.{◌≡◌, refl}
+use mathlib.Core.Bool.{true, false}
 use native.Mathlib.Omega.{arith}
-use Rattle.terms.proofs.Choice.{is_false, no_true}
-use Rattle.terms.proofs.Valid.{stands_is, is_stands, terms_of_lem, terms_stand, holds_valid, valid_holds}
+use borrow.Author.Tests.{tests}
+use Rattle.std.proofs.Common.{rules}
+use Rattle.std.proofs.lemmas.Iterator.{cases_from_all, YieldsList-from_range}
+use Rattle.terms.specs.Valid.{stands, holds}
+use Rattle.terms.proofs.AllOf.{all_is_each}
+use Rattle.lent_terms.proofs.Lent.{holds_by, holds_not}
 use Rattle.lent_terms.proofs.holds_together.Goals as goal
 
-pub returns-then-terms-ne-MAX_TERMS : goal.returns-then-terms-ne-MAX_TERMS
-returns-then-terms-ne-MAX_TERMS c = let a = c.args in is_false _ (λ e. c.if-terms-ne-MAX_TERMS.true (holds_valid a.n a.terms.now a.count e).size)
-
-pub returns-then-count-gt-MAX_TERMS : goal.returns-then-count-gt-MAX_TERMS
-returns-then-count-gt-MAX_TERMS c =
+pub returns-then-count-le-MAX_TERMS : goal.returns-then-count-le-MAX_TERMS
+returns-then-count-le-MAX_TERMS c =
     let a = c.args in
-    is_false _ (λ e. let v = holds_valid a.n a.terms.now a.count e in omega (arith, v.room))
+    let all = all_is_each (stands a.n a.terms.now) a.count c.all.result
+    (cases_from_all _ _ _ (λ k. stands a.n a.terms.now k ≡ true) (λ k. stands a.n a.terms.now k ≡ false) c.all.ensures.ran
+    (YieldsList-from_range 0 a.count a.count refl (omega arith)) (λ x q k. search (rules, tests)) (λ x q k. search (rules, tests))) in
+    holds_by a.n a.terms.now a.count c.if-count-le-MAX_TERMS.true.0 c.if-count-le-MAX_TERMS.true.1 all
 
-pub loop-i-init : goal.loop-i-init
-loop-i-init c = (search rules, λ k h. absurd (omega arith))
-
-pub returns-then-not-term_stands : goal.returns-then-not-term_stands
-returns-then-not-term_stands c =
+pub returns-else-count-le-MAX_TERMS : goal.returns-else-count-le-MAX_TERMS
+returns-else-count-le-MAX_TERMS c =
     let a = c.args in
-    let i = c.loop-i.i in
-    is_false _
-    (λ e.
-    let v = holds_valid a.n a.terms.now a.count e in
-    no_true (sym c.if-not-term_stands.true ∙ c.term_stands.ensures ∙ is_stands (terms_stand v.terms i c.loop-i-test.true)))
-
-pub loop-i-preserved : goal.loop-i-preserved
-loop-i-preserved c =
-    let a = c.args in
-    let i = c.loop-i.i in
-    (search rules, below_more _ _ c.loop-i.invariant.1 (stands_is a.n a.terms.now i (sym c.term_stands.ensures ∙ c.if-not-term_stands.false)))
-
-pub returns : goal.returns
-returns c =
-    sym (valid_holds (record { size = omega arith; room = omega arith; terms = terms_of_lem (λ k h. c.loop-i.invariant.1 k (omega arith)) }))
+    let no : false ≡ holds a.n a.terms.now a.count = holds_not a.n a.terms.now a.count c.if-count-le-MAX_TERMS.either in
+    cc

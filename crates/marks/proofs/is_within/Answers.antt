@@ -1,31 +1,17 @@
--- `marks::is_within` meets its contract. The invariant: what is left of the test says what all of it says. Assumes nothing.
-use Rattle.std.proofs.Common.{rules}
-use mathlib.Core.Path.{◌≡◌, sym, ap, ◌∙◌}
-use Prim.Native.Nat.{ℕ, ◌*◌, ◌-◌}
-use native.Mathlib.Omega.{arith}
-use lib.ListN.{length}
-use Rattle.marks.specs.Within.{clear, within}
-use Rattle.marks.proofs.Within.{clear_end, clear_here, clear_next}
+-- `marks::is_within` meets its contract: it asks of each number from the bound on. Assumes nothing.
+use Rattle.std.proofs.Common.{◌≡◌, ◌∙◌, sym, refl, ◌-◌, ◌*◌, length, rules, not, tests}
+use Rattle.std.proofs.lemmas.Iterator.{YieldsList-from_range}
+use Rattle.std.proofs.lemmas.Iterator.Search.{all_from_yields_List}
+use Rattle.marks.specs.Marks.{marked}
+use Rattle.marks.specs.Within.{within}
+use Rattle.marks.proofs.Within.{clear_all}
 use Rattle.marks.proofs.is_within.Goals as goal
-use Rattle.marks.proofs.is_within.Goals.{Start}
-
-eight : (c : Start) → length c.args.set ≡ 8
-eight c = search rules
-
-pub loop-k-init : goal.loop-k-init
-unfolding within
-loop-k-init c =
-    let width : 64 * length c.args.set ≡ 512 = omega (arith, eight c) in
-    ap (λ (w : ℕ). clear c.args.set c.args.bound (w - c.args.bound)) (sym width)
-
-pub returns-then-has : goal.returns-then-has
-returns-then-has c =
-    sym (clear_here c.args.set c.loop-k.k c.loop-k-test.true (sym c.has.ensures ∙ c.if-has.true)) ∙ c.loop-k.invariant
-
-pub loop-k-preserved : goal.loop-k-preserved
-loop-k-preserved c =
-    sym (clear_next c.args.set c.loop-k.k c.loop-k-test.true (sym c.has.ensures ∙ c.if-has.false)) ∙ c.loop-k.invariant
 
 pub returns : goal.returns
+unfolding within
 returns c =
-    sym (clear_end c.args.set c.loop-k.k (omega arith)) ∙ c.loop-k.invariant
+    let width : length c.args.set ≡ 8 = search rules in
+    all_from_yields_List (λ i. not (marked c.args.set i)) _ _ _ c.all.ensures.ran
+    (YieldsList-from_range c.args.bound 512 (64 * length c.args.set - c.args.bound) refl (rw width refl))
+    (λ x b q k. search (rules, tests))
+    ∙ sym (clear_all c.args.set c.args.bound (64 * length c.args.set - c.args.bound))

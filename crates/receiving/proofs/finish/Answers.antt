@@ -1,22 +1,18 @@
 -- `receiving::finish` meets its contract: by the law for each way out. Assumes nothing.
 -- ---- what is known on the way
-use mathlib.Core.Bool.{true, ◌&&◌}
+use Rattle.std.specs.Prelude.{Ok, Some}
+use Rattle.std.proofs.Common.{inl, inr}
 use mathlib.Core.Path.{◌≡◌, sym, ap, ◌∙◌}
-use lib.Dec.{eqb}
 use Rattle.terms.specs.Meaning.{message_at}
 use Rattle.forms.specs.Forms.{confirmation_in}
-use Rattle.forms.specs.declared.Confirmation.TheVariants as confirmations
 use Rattle.conditions.specs.Conditions.{derivable_at}
 use Rattle.decisions.specs.Decision.{need}
-use Rattle.receiving.proofs.Laws.{no_confirmation, confirmation_to_another, confirmation_over, confirmation_asked}
+use Rattle.receiving.proofs.Laws.{no_confirmation, confirmation_to_another, confirmation_over, confirmation_asked, both, one_differs}
 use Rattle.receiving.proofs.finish.Goals as goal
-use Rattle.receiving.proofs.finish.Goals.{Else-not-ta-own, In-Is}
+use Rattle.receiving.proofs.finish.Goals.{In-Some, then-ta-own-via-then-ta-own, then-ta-own-via-else-ta-own+then-k-own}
 
-is : (c : In-Is) → let a = c.args in confirmation_in (message_at a.terms.now a.m) ≡ confirmations.Is c.in-Is.ta c.in-Is.k
-is c = sym c.open_confirmation.ensures ∙ c.in-Is.is
-
-mine : (c : Else-not-ta-own) → let a = c.args in (eqb c.in-Is.ta a.own.ta && eqb c.in-Is.k a.own.k) ≡ true
-mine c = c.if-not-ta-own.false
+is : (c : In-Some) → let a = c.args in confirmation_in (message_at a.terms.now a.m) ≡ Some c.in-Some.field-0
+is c = sym c.open_confirmation.ensures ∙ c.in-Some.is
 
 -- ---- the needs
 pub returns-in_default : goal.returns-in_default
@@ -24,18 +20,21 @@ returns-in_default c ws =
     let a = c.args in
     no_confirmation a.h a.terms.now ws a.run a.own a.m (sym c.open_confirmation.ensures ∙ c.in_default.is)
 
-pub returns-then-not-ta-own : goal.returns-then-not-ta-own
-returns-then-not-ta-own c ws =
+pub returns-then-ta-own : goal.returns-then-ta-own
+returns-then-ta-own c ws =
     let a = c.args in
-    confirmation_to_another a.h a.terms.now ws a.run a.own a.m c.in-Is.ta c.in-Is.k (is (goal.at.returns-then-not-ta-own c).In-Is) c.if-not-ta-own.true
+    confirmation_to_another a.h a.terms.now ws a.run a.own a.m c.in-Some.field-0 (is (goal.at.returns-then-ta-own c).In-Some) (elim c.then-ta-own.branch [
+      | then-ta-own-via-then-ta-own w ↦ one_differs (inl w.if-ta-own.true)
+      | then-ta-own-via-else-ta-own+then-k-own w ↦ one_differs (inr (w.if-ta-own.false, w.if-k-own.true))
+    ])
 
 pub returns-then-not-ticket_lives : goal.returns-then-not-ticket_lives
 returns-then-not-ticket_lives c ws =
     let a = c.args in
-    confirmation_over a.h a.terms.now ws a.run a.own a.m c.in-Is.ta c.in-Is.k (is (goal.at.returns-then-not-ticket_lives c).In-Is) (mine (goal.at.returns-then-not-ticket_lives c).Else-not-ta-own) (sym c.ticket_lives.ensures ∙ c.if-not-ticket_lives.true)
+    confirmation_over a.h a.terms.now ws a.run a.own a.m c.in-Some.field-0 (is (goal.at.returns-then-not-ticket_lives c).In-Some) (both c.if-ta-own.false c.if-k-own.false) (sym c.ticket_lives.ensures ∙ c.if-not-ticket_lives.true)
 
 pub returns : goal.returns
 returns c ws =
     let a = c.args in
-    ap (need (derivable_at a.h a.terms.now ws a.m) 15) c.finished.ensures
-    ∙ confirmation_asked a.h a.terms.now ws a.run a.own a.m c.in-Is.ta c.in-Is.k (is (goal.at.returns c).In-Is) (mine (goal.at.returns c).Else-not-ta-own) (sym c.ticket_lives.ensures ∙ c.if-not-ticket_lives.false)
+    ap (need (derivable_at a.h a.terms.now ws a.m) 15) (ap Ok c.finished.ensures)
+    ∙ confirmation_asked a.h a.terms.now ws a.run a.own a.m c.in-Some.field-0 (is (goal.at.returns c).In-Some) (both c.if-ta-own.false c.if-k-own.false) (sym c.ticket_lives.ensures ∙ c.if-not-ticket_lives.false)

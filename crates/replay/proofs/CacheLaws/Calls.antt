@@ -5,10 +5,9 @@ use Prim.Native.Nat.{ℕ, ◌<◌, ◌≤◌}
 use Rattle.std.proofs.Common.{arith, inl, inr}
 use Rattle.std.proofs.Math.Bool.{and-eq-true_iff, and-false}
 use borrow.Author.Tests.{not-false, eqb-true, eqb-false, leb-true, le-leb, lt-leb, eq-eqb, ne_eqb}
-use Rattle.replay.specs.declared.cache.Swept.{Swept}
 use Rattle.replay.specs.declared.entry.Entry.{Entry}
 use Rattle.replay.specs.declared.entry.Purge.{Purge}
-use Rattle.replay.specs.Cache.{present, entries, CacheOutcome, refused, accepted, done, cache_refusal, appending, sweeping, fits, remembered, forgotten}
+use Rattle.replay.specs.Cache.{Swept, present, entries, CacheOutcome, refused, accepted, done, cache_refusal, appending, sweeping, fits, remembered, forgotten}
 
 -- ---- 18 and 19
 

@@ -6,6 +6,7 @@ use Prim.Native.Nat.{ℕ, zero, suc, ◌+◌, ◌<◌, ◌≤◌}
 use Rattle.std.specs.Prelude.{Bool, ◌&&◌, ◌||◌, cond, eqb, ltb, leb, length, get_or, take}
 use Rattle.std.proofs.Math.Bool.{true, false, not, and-eq-true_iff}
 use mathlib.Core.List.{List, [], ◌∷◌, ◌++◌, Memᴰ}
+use Rattle.std.specs.List.{list_any}
 use Rattle.std.proofs.Math.Seq.{take-suc}
 use borrow.Author.Tests.{not-false, eqb-true, leb-true, leb-false, lt-ltb, le-ltb, le-leb, eq-eqb, ne_eqb}
 use Rattle.replay.specs.declared.entry.Entry.{Entry}
@@ -67,6 +68,12 @@ module _ (p : Purge) (x : Entry) where
 -- ---- present
 
 module _ (e : Entry) where
+  -- an entry at a time, as the library looks for it
+  pub present_any : (xs : List Entry) → list_any (λ (x : Entry). same x e) xs ≡ present xs e
+  unfolding present
+  present_any [] = refl
+  present_any (x ∷ xs) = ap (λ (t : Bool). same x e || t) (present_any xs)
+
   pub present_append : (xs ys : List Entry) → present (xs ++ ys) e ≡ present xs e || present ys e
   unfolding present
   present_append [] ys = refl

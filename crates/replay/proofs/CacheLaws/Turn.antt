@@ -7,10 +7,9 @@ use Prim.Native.Nat.{ℕ, ◌+◌, ◌<◌, ◌≤◌}
 use native.Mathlib.Omega.{arith}
 use mathlib.Core.List.{List}
 use Rattle.std.proofs.Math.ListN.{length}
-use Rattle.replay.specs.declared.cache.Swept.{Swept}
 use Rattle.replay.specs.declared.entry.Entry.{Entry}
 use Rattle.replay.specs.declared.entry.Purge.{Purge}
-use Rattle.replay.specs.Cache.{empty, stays, swept, after_read}
+use Rattle.replay.specs.Cache.{Swept, empty, stays, swept, after_read}
 use Rattle.replay.proofs.CacheLaws.Pass.{at_length, at_below, at_next, at_goes, at_stays}
 
 -- the same of a list and a count that stand so

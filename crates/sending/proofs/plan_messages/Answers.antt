@@ -2,9 +2,9 @@
 use Rattle.sending.proofs.Planned.{ready, both_planned}
 use Rattle.sending.proofs.plan_messages.Goals as goal
 
-pub plan_node-one-requires : goal.plan_node-one-requires
-plan_node-one-requires c = (ready c.requires.0 c.requires.1, c.requires.0.first_node)
+pub add_node-first-requires : goal.add_node-first-requires
+add_node-first-requires c = (rw c.new-plan.ensures (ready c.requires.0), c.requires.0.first_node)
 
 pub returns : goal.returns
 returns c =
-    both_planned c.requires.0 c.plan_node-one.ensures c.plan_node-two.ensures
+    rw c.copy_from_slice.ensures.after (both_planned c.requires.0 (rw c.new-plan.ensures at c.add_node-first.ensures) c.add_node-last.ensures)

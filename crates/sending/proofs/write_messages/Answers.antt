@@ -8,15 +8,15 @@ use Rattle.sending.proofs.write_messages.Goals as goal
 
 pub mark-requires : goal.mark-requires
 mark-requires c =
-    omega (arith, c.requires.1, (two_fit c.in-Two.is c.requires.4).0)
+    omega (arith, c.requires.1, (two_fit c.in-Some.is c.requires.4).0)
 
-pub mark-requires-in-Two : goal.mark-requires-in-Two
-mark-requires-in-Two c =
+pub mark-requires-in-Some : goal.mark-requires-in-Some
+mark-requires-in-Some c =
     let same = ap length c.mark.ensures ∙ with_length c.args.wire.now _ ∙ c.requires.1 in
-    omega (arith, same, (two_fit c.in-Two.is c.requires.4).1)
+    omega (arith, same, (two_fit c.in-Some.is c.requires.4).1)
 
-pub returns-in-Two : goal.returns-in-Two
-returns-in-Two c = (c.write_plan.ensures, two_marked c.in-Two.is c.args.wire.now c.mark.ensures c.mark-in-Two.ensures)
+pub returns-in-Some : goal.returns-in-Some
+returns-in-Some c = (c.write_plan.ensures, two_marked c.in-Some.is c.args.wire.now c.mark.ensures c.mark-in-Some.ensures)
 
 pub returns-in_default : goal.returns-in_default
 returns-in_default c = (c.write_plan.ensures, none_marked c.in_default.is _)

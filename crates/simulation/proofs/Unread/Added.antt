@@ -1,13 +1,11 @@
 -- A term is added alike to tables that are alike below the count: it is searched there, and goes behind the others.
 -- Assumes nothing.
-use Rattle.std.specs.Prelude.{ℕ, suc, ◌<◌, ◌≡◌, refl, Bool, true, false, List, [], ◌∷◌, ◌++◌, eqb, length, set}
+use Rattle.std.specs.Prelude.{ℕ, suc, ◌<◌, ◌≡◌, refl, Bool, true, false, List, [], ◌∷◌, ◌++◌, eqb, length, set, Option, Some, None}
 use Rattle.std.proofs.Common.{sym, ap₂, ◌∙◌, le_refl, arith, length-set, take-suc, get_or-set_same}
 use Rattle.std.proofs.Math.Path.{ap, subst}
 use Rattle.std.proofs.Math.Bool.{cond}
 use Rattle.std.proofs.lemmas.Bool.{eqb-false}
 use Rattle.std.proofs.lemmas.List.{take-set-le}
-use Rattle.terms.specs.declared.table.Found.{Found}
-use Rattle.terms.specs.declared.table.Found.TheVariants.{At, Nothing}
 use Rattle.terms.specs.Add.{add_by, add_of}
 use Rattle.terms.specs.Number.{terms_of}
 use Rattle.terms.specs.Outcome as terms
@@ -48,11 +46,11 @@ module _ {n : ℕ} {ts ts' : List ℕ} {count : ℕ} (v : Valid n ts count) (v' 
             ∙ sym (set_terms ts' count word (omega (arith, v'.size)));
       }
 
-  by_found : (f : Found) → AddsSame (add_by ts count word f) (add_by ts' count word f)
-  by_found (At i) = record { answer = refl; count = refl; terms = same }
-  by_found Nothing = by_room (eqb count 512) refl
+  by_found : (f : Option ℕ) → AddsSame (add_by ts count word f) (add_by ts' count word f)
+  by_found (Some i) = record { answer = refl; count = refl; terms = same }
+  by_found None = by_room (eqb count 512) refl
 
-  by_rule : (fine : Bool) (k : ℕ) (f : Found) → AddsSame (cond fine (add_by ts count word f) (terms.refuse k count ts)) (cond fine (add_by ts' count word f) (terms.refuse k count ts'))
+  by_rule : (fine : Bool) (k : ℕ) (f : Option ℕ) → AddsSame (cond fine (add_by ts count word f) (terms.refuse k count ts)) (cond fine (add_by ts' count word f) (terms.refuse k count ts'))
   by_rule true k f = by_found f
   by_rule false k f = kept_same k
 
@@ -63,6 +61,6 @@ module _ {n : ℕ} {ts ts' : List ℕ} {count : ℕ} (v : Valid n ts count) (v' 
       let f = find_of ts count word in
       subst (AddsSame (add_of n ts count word))
       (ap (λ (j : ℕ). cond (eqb j 0) (add_by ts' count word f) (terms.refuse j count ts')) (refusal_same n ts ts' count word (words_same v v' same))
-      ∙ ap (λ (g : Found). cond (eqb (refusal_of n ts' count word) 0) (add_by ts' count word g) (terms.refuse (refusal_of n ts' count word) count ts'))
+      ∙ ap (λ (g : Option ℕ). cond (eqb (refusal_of n ts' count word) 0) (add_by ts' count word g) (terms.refuse (refusal_of n ts' count word) count ts'))
       (find_same ts ts' count word (words_same v v' same)))
       (by_rule (eqb k 0) k f)

@@ -1,7 +1,7 @@
 -- A step is decided alike on tables that are alike below the counts: by its row of the step table, with what is read of each table.
 -- Assumes nothing.
 use Prim.Native.Nat.{ℕ, zero, suc, ◌<◌}
-use Rattle.std.specs.Prelude.{◌≡◌, Bool, true, false, not, ◌&&◌, List, leb, eqb, length}
+use Rattle.std.specs.Prelude.{◌≡◌, Bool, true, false, not, ◌&&◌, List, leb, eqb, length, Ok, Err, Option, None, Some}
 use Rattle.std.proofs.Math.Path.{refl, ap}
 use Rattle.std.proofs.Common.{ap₂, ◌∙◌, eqb-true}
 use Rattle.terms.specs.Meaning.{message_at}
@@ -12,14 +12,11 @@ use Rattle.exchange.specs.declared.run.Row.{Row}
 use Rattle.exchange.specs.Forms.{form_of}
 use Rattle.kerberos.specs.Messages.{presented}
 use Rattle.forms.specs.Forms.{request_in, confirmation_in}
-use Rattle.forms.specs.Grant.{Granted, Is, Other, grant_in}
+use Rattle.forms.specs.Grant.{Granted, grant_in}
 use Rattle.forms.specs.declared.Confirmation.{Confirmation}
-use Rattle.forms.specs.declared.Confirmation.TheVariants as confirmations
 use Rattle.forms.specs.declared.Request.{Request}
-use Rattle.forms.specs.declared.Request.TheVariants as requests
 use Rattle.forms.specs.Delivery.{delivery_in}
 use Rattle.forms.specs.declared.Delivery.{Delivery}
-use Rattle.forms.specs.declared.Delivery.TheVariants as deliveries
 use Rattle.replay.specs.Cache.{entries}
 use Rattle.replay.specs.declared.entry.Entry.{Entry}
 use Rattle.rows.specs.Rows.{rows_of}
@@ -31,9 +28,7 @@ use Rattle.realm.specs.Input.{uses_table, uses_of, input_refusal}
 use Rattle.realm.proofs.InputLaws.{passed}
 use Rattle.realm.specs.Tables.{Tables, tables, Together}
 use Rattle.conditions.specs.Conditions.{derivable_at, ticket_lives, admission}
-use Rattle.decisions.specs.declared.Verdict.{Verdict}
-use Rattle.decisions.specs.declared.Verdict.TheVariants.{Takes, Refused}
-use Rattle.decisions.specs.Decision.{need, on_request, issues, on_grant, authenticates, on_delivery, takes, on_confirmation, finishes}
+use Rattle.decisions.specs.Decision.{need, on_request, issues, on_grant, authenticates, on_delivery, takes, on_confirmation, finishes, Verdict}
 use Rattle.decisions.specs.Decision.{room_for_run, named, opens_run, ticks, queries, step_of, decided, roomed, decision}
 use Rattle.decisions.specs.declared.Sends.{Sends}
 use Rattle.decisions.specs.declared.Sends.TheVariants as sending
@@ -45,33 +40,33 @@ use Rattle.simulation.proofs.Unread.Reads.{message_same, derivable_same, run_sam
 -- ---- the steps that take a message
 
 module _ (h : Realm) (ts ts' ws : List ℕ) (m : ℕ) (same_terms : terms_of ts h.terms ≡ terms_of ts' h.terms) (d : derivable_at h ts ws m ≡ derivable_at h ts' ws m) where
-  on_request_lem : (q : Request) → on_request h ts ws m q ≡ on_request h ts' ws m q
-  on_request_lem requests.Other = refl
-  on_request_lem (requests.Is a b n) =
-      ap (λ (can : Bool). need (not (eqb a 0) && not (eqb b 0) && not (eqb a b)) 14 (need can 15 (Takes (issuing h.clock (form_of h.rules) h.runs a b n)))) d
+  on_request_lem : (q : Option Request) → on_request h ts ws m q ≡ on_request h ts' ws m q
+  on_request_lem None = refl
+  on_request_lem (Some q) =
+      ap (λ (can : Bool). need (not (eqb q.a 0) && not (eqb q.b 0) && not (eqb q.a q.b)) 14 (need can 15 (Ok (issuing h.clock (form_of h.rules) h.runs q.a q.b q.n)))) d
 
   module _ (r : ℕ) (own : Row) where
-    on_grant_lem : (q : Granted) → on_grant h ts ws r own m q ≡ on_grant h ts' ws r own m q
-    on_grant_lem Other = refl
-    on_grant_lem (Is k b t n a x) =
-        ap₂ (λ (can : Bool) (xs : List ℕ). need (eqb b own.b && eqb n r && eqb a own.a) 14
-        (need can 15 (need (ticket_lives h t) 16 (Takes (authenticating h.clock (form_of h.rules) r own.a own.b k t (number_in xs x)))))) d same_terms
+    on_grant_lem : (q : Option Granted) → on_grant h ts ws r own m q ≡ on_grant h ts' ws r own m q
+    on_grant_lem None = refl
+    on_grant_lem (Some q) =
+        ap₂ (λ (can : Bool) (xs : List ℕ). need (eqb q.b own.b && eqb q.n r && eqb q.a own.a) 14
+        (need can 15 (need (ticket_lives h q.ts) 16 (Ok (authenticating h.clock (form_of h.rules) r own.a own.b q.k q.ts (number_in xs q.x)))))) d same_terms
 
-    on_confirmation_lem : (q : Confirmation) → on_confirmation h ts ws r own m q ≡ on_confirmation h ts' ws r own m q
-    on_confirmation_lem confirmations.Other = refl
-    on_confirmation_lem (confirmations.Is ta k) =
-        ap (λ (can : Bool). need (eqb ta own.ta && eqb k own.k) 14
-        (need can 15 (need (ticket_lives h own.ts) 16 (Takes (finishing h.clock r own.a own.b own.k own.ts own.ta))))) d
+    on_confirmation_lem : (q : Option Confirmation) → on_confirmation h ts ws r own m q ≡ on_confirmation h ts' ws r own m q
+    on_confirmation_lem None = refl
+    on_confirmation_lem (Some q) =
+        ap (λ (can : Bool). need (eqb q.ta own.ta && eqb q.k own.k) 14
+        (need can 15 (need (ticket_lives h own.ts) 16 (Ok (finishing h.clock r own.a own.b own.k own.ts own.ta))))) d
 
-    on_delivery_lem : (c c' : List Entry) → entries c h.entries ≡ entries c' h.entries → (q : Delivery) → on_delivery h ts ws c r own m q ≡ on_delivery h ts' ws c' r own m q
-    on_delivery_lem c c' same deliveries.Other = refl
-    on_delivery_lem c c' same (deliveries.Is k a t b ta) =
-        ap (λ (can : Bool). by can (admission h c t (record { b = b; k = k; ta = ta }))) d
-        ∙ ap (by (derivable_at h ts' ws m)) (admission_same h c c' same t (record { b = b; k = k; ta = ta }))
+    on_delivery_lem : (c c' : List Entry) → entries c h.entries ≡ entries c' h.entries → (q : Option Delivery) → on_delivery h ts ws c r own m q ≡ on_delivery h ts' ws c' r own m q
+    on_delivery_lem c c' same None = refl
+    on_delivery_lem c c' same (Some q) =
+        ap (λ (can : Bool). by can (admission h c q.ts (record { b = q.b; k = q.k; ta = q.ta }))) d
+        ∙ ap (by (derivable_at h ts' ws m)) (admission_same h c c' same q.ts (record { b = q.b; k = q.k; ta = q.ta }))
       where
         by : Bool → ℕ → Verdict
         by can number =
-            need (eqb a own.a && eqb b own.b) 14 (need can 15 (need (eqb number 0) number (Takes (accepting h.clock r own.a own.b k t ta))))
+            need (eqb q.a own.a && eqb q.b own.b) 14 (need can 15 (need (eqb number 0) number (Ok (accepting h.clock r own.a own.b q.k q.ts q.ta))))
 
 -- ---- a step, of two tables with one realm and one wire
 
@@ -126,9 +121,9 @@ module _ (h : Realm) {ts ts' rs rs' : List ℕ} (ws : List ℕ) {c c' : List Ent
   by_step (suc (suc (suc (suc (suc (suc (suc zero))))))) r a b m now f = refl
   by_step (suc (suc (suc (suc (suc (suc (suc (suc zero)))))))) r a b m now f = refl
   by_step (suc (suc (suc (suc (suc (suc (suc (suc (suc zero))))))))) r a b m now f =
-      ap (λ (x : Row). named 9 x (Takes (leaking h.clock r))) (own_same r (f.run refl))
+      ap (λ (x : Row). named 9 x (Ok (leaking h.clock r))) (own_same r (f.run refl))
   by_step (suc (suc (suc (suc (suc (suc (suc (suc (suc (suc zero)))))))))) r a b m now f =
-      ap (λ (can : Bool). need can 15 (Takes (nothing h.clock))) (can_same m (f.m refl))
+      ap (λ (can : Bool). need can 15 (Ok (nothing h.clock))) (can_same m (f.m refl))
   by_step (suc (suc (suc (suc (suc (suc (suc (suc (suc (suc (suc step))))))))))) r a b m now f = refl
 
   decided_same : (s : Step) → decided one s ≡ decided other s
@@ -147,9 +142,9 @@ module _ (h : Realm) {ts ts' rs rs' : List ℕ} (ws : List ℕ) {c c' : List Ent
   sends_same (sending.Key k) l = refl
 
   roomed_same : (s : Step) (v : Verdict) → decided other s ≡ v → roomed one v ≡ roomed other v
-  roomed_same s (Refused k) e = refl
-  roomed_same s (Takes x) e =
-      ap₂ (λ (xs : List ℕ) (ms : List Message). need (leb (length (entered_all xs ms)) 512) 20 (Takes x)) same_terms
+  roomed_same s (Err k) e = refl
+  roomed_same s (Ok x) e =
+      ap₂ (λ (xs : List ℕ) (ms : List Message). need (leb (length (entered_all xs ms)) 512) 20 (Ok x)) same_terms
       (sends_same x.sends (taken_fits other s w' e).carries)
 
   pub decision_same : (s : Step) → decision one s ≡ decision other s

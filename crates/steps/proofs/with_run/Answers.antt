@@ -1,6 +1,7 @@
 -- `steps::with_run` meets its contract: each step by its call's contract and its law. Assumes nothing.
 -- ---- what is known on the way
-use mathlib.Core.Path.{refl, sym, ◌∙◌}
+use mathlib.Core.Path.{refl, sym, ap, ◌∙◌}
+use Rattle.std.specs.Prelude.{Ok}
 use native.Mathlib.Omega.{arith}
 use Rattle.realm.specs.Input.{uses_table}
 use Rattle.realm.specs.Tables.{tables}
@@ -67,6 +68,6 @@ returns-in_default c =
     record {
       present = λ q. no_true q;
       is = λ ws.
-          c.rest.ensures
+          ap Ok c.rest-effect.ensures
           ∙ step_9 (tables c.args.h c.args.terms.now c.args.runs.now ws c.args.cache) c.args.s c.run_at-own.result c.run_at-own.ensures (sym c.fits.ensures ∙ c.if-not-fits.false) (is_9 c.args.s.step c.requires.1.names no.0.0.1 no.0.1 no.1);
     }

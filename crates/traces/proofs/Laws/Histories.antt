@@ -3,9 +3,8 @@
 -- Assumes nothing.
 use Rattle.std.specs.Prelude.{◌≡◌, refl, Bool, true, false, List, [], ◌∷◌, ◌⊎◌}
 use Rattle.std.proofs.Common.{inl, inr, ⊎_elim}
-use Rattle.exchange.specs.declared.call.Answer.{Answer}
 use Rattle.exchange.specs.declared.call.Call.{Call}
-use Rattle.exchange.specs.Calls.{accepts, AllSized}
+use Rattle.exchange.specs.Calls.{Answer, accepts, AllSized}
 use Rattle.traces.specs.Engines.{Engine, after, history}
 use Rattle.traces.specs.Lists.{◌⊑◌, now, before}
 use Rattle.traces.specs.Logs.{Log, Trace, start, add}

@@ -3,7 +3,7 @@ use Rattle.walkfile.proofs.Promises.{counts}
 use Rattle.walk.proofs.main.Goals as goal
 
 pub slice_bounds-out-end : goal.slice_bounds-out-end
-slice_bounds-out-end c = (counts _ _ _ _ c.in-Written.ensures).0
+slice_bounds-out-end c = (counts _ _ _ _ c.in-Some.ensures).0
 
 pub slice_bounds-write_all-end : goal.slice_bounds-write_all-end
-slice_bounds-write_all-end c = (counts _ _ _ _ c.in-Written.ensures).1
+slice_bounds-write_all-end c = (counts _ _ _ _ c.in-Some.ensures).1

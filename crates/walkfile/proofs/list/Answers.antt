@@ -1,5 +1,6 @@
 -- `walkfile::list` meets its contract. Assumes nothing.
-use mathlib.Core.Path.{sym, ◌∙◌}
+use mathlib.Core.Path.{sym, ap, ◌∙◌}
+use Rattle.refusals.specs.Numbers.{number, numbered}
 use Rattle.records.specs.Fields.{Bytes}
 use Rattle.lines.specs.Lines.{file_line}
 use Rattle.walkfile.specs.Listing.{walk_lines}
@@ -14,26 +15,27 @@ pub walk_records-requires : goal.walk_records-requires
 walk_records-requires c =
     let a = c.args in
     let small : Bytes a.file.now = record { small = λ k. (c.type_inv.file k).fits } in (
-      walkable a.file.now c.in-Read.header c.in-Open.h small (sym c.read_header.ensures ∙ c.in-Read.is) (sym c.open_realm.ensures ∙ c.in-Open.is),
+      walkable a.file.now c.in-Ok.header c.in-Ok-open_realm.h small (sym c.read_header.ensures ∙ ap numbered c.in-Ok.is) (sym c.open_realm.ensures ∙ ap numbered c.in-Ok-open_realm.is),
       c.if-out-lt-LISTING_BYTES.false,
     )
 
-pub returns-in-Refused : goal.returns-in-Refused
-returns-in-Refused c =
+pub returns-in-Err : goal.returns-in-Err
+returns-in-Err c =
     let a = c.args in
-    is_listed a.file.now a.out.now c.if-out-lt-LISTING_BYTES.false (file_line 0 c.in-Refused.refusal) (header_refused a.file.now c.in-Refused.refusal (sym c.read_header.ensures ∙ c.in-Refused.is))
+    is_listed a.file.now a.out.now c.if-out-lt-LISTING_BYTES.false (file_line 0 c.from.result)
+    (ap (file_line 0) c.from.ensures ∙ header_refused a.file.now (number c.in-Err.refusal) (sym c.read_header.ensures ∙ ap numbered c.in-Err.is))
     c.write_file_line.ensures.wrote
 
-pub returns-in-Refused-open_realm : goal.returns-in-Refused-open_realm
-returns-in-Refused-open_realm c =
+pub returns-in-Err-open_realm : goal.returns-in-Err-open_realm
+returns-in-Err-open_realm c =
     let a = c.args in
-    is_listed a.file.now a.out.now c.if-out-lt-LISTING_BYTES.false (file_line 0 c.in-Refused-open_realm.refusal)
-    (opening_refused a.file.now c.in-Read.header (sym c.read_header.ensures ∙ c.in-Read.is) c.in-Refused-open_realm.refusal (sym c.open_realm.ensures ∙ c.in-Refused-open_realm.is))
-    c.write_file_line-in-Refused-open_realm.ensures.wrote
+    is_listed a.file.now a.out.now c.if-out-lt-LISTING_BYTES.false (file_line 0 c.from-in-Err-open_realm.result)
+    (ap (file_line 0) c.from-in-Err-open_realm.ensures ∙ opening_refused a.file.now c.in-Ok.header (sym c.read_header.ensures ∙ ap numbered c.in-Ok.is) (number c.in-Err-open_realm.refusal) (sym c.open_realm.ensures ∙ ap numbered c.in-Err-open_realm.is))
+    c.write_file_line-in-Err-open_realm.ensures.wrote
 
-pub returns-in-Open : goal.returns-in-Open
-returns-in-Open c =
+pub returns-in-Ok-open_realm : goal.returns-in-Ok-open_realm
+returns-in-Ok-open_realm c =
     let a = c.args in
-    is_listed a.file.now a.out.now c.if-out-lt-LISTING_BYTES.false (walk_lines c.in-Open.h c.in-Read.header.mark a.file.now)
-    (opened a.file.now c.in-Read.header (sym c.read_header.ensures ∙ c.in-Read.is) c.in-Open.h (sym c.open_realm.ensures ∙ c.in-Open.is))
+    is_listed a.file.now a.out.now c.if-out-lt-LISTING_BYTES.false (walk_lines c.in-Ok-open_realm.h c.in-Ok.header.mark a.file.now)
+    (opened a.file.now c.in-Ok.header (sym c.read_header.ensures ∙ ap numbered c.in-Ok.is) c.in-Ok-open_realm.h (sym c.open_realm.ensures ∙ ap numbered c.in-Ok-open_realm.is))
     c.walk_records.ensures

@@ -13,7 +13,7 @@ lent c = tables c.args.h c.args.terms.now c.args.runs.now c.args.wire.now c.args
 
 pub returns-in-Term : goal.returns-in-Term
 returns-in-Term c =
-    let e = term_called (lent (goal.at.returns-in-Term c).Start) _ _ _ c.add_term-added.ensures ∙ ap (called (lent (goal.at.returns-in-Term c).Start)) (sym c.in-Term.is) in
+    let e = term_called (lent (goal.at.returns-in-Term c).Start) _ _ _ c.add_term-answer.ensures ∙ ap (called (lent (goal.at.returns-in-Term c).Start)) (sym c.in-Term.is) in
     record {
       wire_after = e;
       kept_by = kept_called c.requires.0 c.requires.1 c.args.c e;

@@ -18,7 +18,7 @@ returns-then-not-tables_hold c =
 pub call-requires : goal.call-requires
 call-requires c =
     let h = c.args.h in
-    (c.tables_hold.ensures.1 c.if-not-tables_hold.false, kept_none h.n h.flags _ h.terms)
+    (c.tables_hold.ensures.1 c.if-not-tables_hold.false, rw c.new-known.ensures (kept_none h.n h.flags _ h.terms))
 
 pub returns : goal.returns
 returns c =

@@ -32,26 +32,26 @@ returns-then-not-draft_fits c =
     let a = c.args in
     (bad_draft a.n a.terms.now a.count a.draft a.root (held (goal.at.returns-then-not-draft_fits c).Else-not-holds_together) (inside (goal.at.returns-then-not-draft_fits c).Else-root-ge-NODES) (sym c.draft_fits.ensures ∙ c.if-not-draft_fits.true))
 
-pub plan_node-planned-requires : goal.plan_node-planned-requires
-plan_node-planned-requires c =
-    (start_ready (omega arith) (held (goal.at.plan_node-planned-requires c).Else-not-holds_together) (fitting (goal.at.plan_node-planned-requires c).Else-not-draft_fits) refl, inside (goal.at.plan_node-planned-requires c).Else-root-ge-NODES)
+pub add_node-number-requires : goal.add_node-number-requires
+add_node-number-requires c =
+    (rw c.new-plan.ensures (start_ready (omega arith) (held (goal.at.add_node-number-requires c).Else-not-holds_together) (fitting (goal.at.add_node-number-requires c).Else-not-draft_fits)), inside (goal.at.add_node-number-requires c).Else-root-ge-NODES)
 
 pub overflow_add-all : goal.overflow_add-all
 overflow_add-all c =
-    let r = c.plan_node-planned.ensures.again in
+    let r = c.add_node-number.ensures.again in
     record { fits = omega (arith, few r, r.table.room) }
 
 pub returns-then-all-gt-MAX_TERMS : goal.returns-then-all-gt-MAX_TERMS
 returns-then-all-gt-MAX_TERMS c =
     let a = c.args in
-    (too_many a.n a.terms.now a.count a.draft a.root (held (goal.at.returns-then-all-gt-MAX_TERMS c).Else-not-holds_together) (inside (goal.at.returns-then-all-gt-MAX_TERMS c).Else-root-ge-NODES) (fitting (goal.at.returns-then-all-gt-MAX_TERMS c).Else-not-draft_fits) c.plan_node-planned.ensures (omega arith))
+    (too_many a.n a.terms.now a.count a.draft a.root (held (goal.at.returns-then-all-gt-MAX_TERMS c).Else-not-holds_together) (inside (goal.at.returns-then-all-gt-MAX_TERMS c).Else-root-ge-NODES) (fitting (goal.at.returns-then-all-gt-MAX_TERMS c).Else-not-draft_fits) (rw c.new-plan.ensures at c.add_node-number.ensures) (omega arith))
 
 pub write_plan-requires : goal.write_plan-requires
 write_plan-requires c =
-    let r = c.plan_node-planned.ensures.again in
+    let r = c.add_node-number.ensures.again in
     (r.table.size, omega arith, omega (arith, few r, r.places))
 
 pub returns : goal.returns
 returns c =
     let a = c.args in
-    rw c.write_plan.ensures (all_fit a.n a.terms.now a.count a.draft a.root (held (goal.at.returns c).Else-not-holds_together) (inside (goal.at.returns c).Else-root-ge-NODES) (fitting (goal.at.returns c).Else-not-draft_fits) c.plan_node-planned.ensures (omega arith))
+    rw c.write_plan.ensures (all_fit a.n a.terms.now a.count a.draft a.root (held (goal.at.returns c).Else-not-holds_together) (inside (goal.at.returns c).Else-root-ge-NODES) (fitting (goal.at.returns c).Else-not-draft_fits) (rw c.new-plan.ensures at c.add_node-number.ensures) (omega arith))

@@ -1,5 +1,5 @@
 -- `raw_records::raw::raw_at` meets its contract. Assumes nothing.
-use Rattle.raw_records.proofs.RawLaws.{raw_term, raw_step, raw_unknown}
+use Rattle.raw_records.proofs.RawLaws.{raw_term, raw_step, raw_none}
 use Rattle.raw_records.proofs.raw.raw_at.Goals as goal
 
 pub returns-then-mark : goal.returns-then-mark
@@ -9,4 +9,4 @@ pub returns-then-mark-2 : goal.returns-then-mark-2
 returns-then-mark-2 c = raw_step _ _ _ _ _ _ _ c.if-mark.false c.if-mark-2.true
 
 pub returns : goal.returns
-returns c = raw_unknown _ _ _ _ _ _ _ c.if-mark.false c.if-mark-2.false
+returns c = raw_none _ _ _ _ _ _ _ c.if-mark.false c.if-mark-2.false

@@ -1,24 +1,23 @@
--- `realm::tables::entries_hold` meets its contract. The invariant: each entry passed fits. Assumes nothing.
-use mathlib.Core.Path.{sym, ◌∙◌}
+-- `realm::tables::entries_hold` meets its contract: by what `all` finds. Assumes nothing.
+use mathlib.Core.Path.{◌≡◌}
+use mathlib.Core.Bool.{true, false}
 use native.Mathlib.Omega.{arith}
-use borrow.Author.Count.{below_more}
+use borrow.Author.Tests.{tests}
+use lib.ListN.{take}
 use Rattle.std.proofs.Common.{rules}
-use Rattle.realm.proofs.Check.{over_limit, misfit, all_fit}
+use Rattle.std.proofs.lemmas.Grind.{common_steps}
+use Rattle.std.proofs.lemmas.Iterator.{cases_from_all, YieldsList-from_slice}
+use Rattle.replay.specs.declared.entry.Entry.{Entry}
+use Rattle.realm.specs.Check.{entry_fits}
+use Rattle.realm.proofs.Check.{over_limit, all_fit_taken}
 use Rattle.realm.proofs.tables.entries_hold.Goals as goal
 
-pub returns-then-count-gt-PLACES : goal.returns-then-count-gt-PLACES
-returns-then-count-gt-PLACES c = over_limit _ _ _ c.if-count-gt-PLACES.true
+pub returns-then-count-le-PLACES : goal.returns-then-count-le-PLACES
+returns-then-count-le-PLACES c =
+    let a = c.args in
+    all_fit_taken a.n a.cache a.count c.if-count-le-PLACES.true (search rules)
+    (cases_from_all _ _ _ (λ (e : Entry). entry_fits a.n e ≡ true) (λ (e : Entry). entry_fits a.n e ≡ false) c.all.ensures.ran
+    (YieldsList-from_slice (take a.count a.cache) (search rules)) (λ x q k. search (rules, tests)) (λ x q k. search (rules, tests)))
 
-pub loop-i-init : goal.loop-i-init
-loop-i-init c = (search rules, λ k h. absurd (omega arith))
-
-pub returns-then-not-entry_fits : goal.returns-then-not-entry_fits
-returns-then-not-entry_fits c =
-    misfit _ _ _ c.loop-i.i c.loop-i-test.true (sym c.entry_fits.ensures ∙ c.if-not-entry_fits.true)
-
-pub loop-i-preserved : goal.loop-i-preserved
-loop-i-preserved c =
-    (search rules, below_more _ _ c.loop-i.invariant.1 (sym c.entry_fits.ensures ∙ c.if-not-entry_fits.false))
-
-pub returns : goal.returns
-returns c = all_fit _ _ _ (omega arith) (λ k h. c.loop-i.invariant.1 k (omega arith))
+pub returns-else-count-le-PLACES : goal.returns-else-count-le-PLACES
+returns-else-count-le-PLACES c = let no = over_limit c.args.n c.args.cache c.args.count c.if-count-le-PLACES.false in grind (arith, common_steps)

@@ -7,13 +7,13 @@ use Rattle.records.proofs.Headers.{lives_near}
 use Rattle.records.proofs.header.header_width.Goals as goal
 
 pub overflow_add-result : goal.overflow_add-result
-overflow_add-result c = let h = (lives_near c.in-Found.format.flags).1 in let e = c.lives_at.ensures in search rules
+overflow_add-result c = let h = (lives_near c.in-Some.format.flags).1 in let e = c.lives_at.ensures in search rules
 
-pub returns-in-Found : goal.returns-in-Found
+pub returns-in-Some : goal.returns-in-Some
 unfolding header_width
-returns-in-Found c =
-    ap (λ (k : ℕ). k + 8) c.lives_at.ensures ∙ ap format_bytes (sym c.in-Found.is ∙ c.format_of.ensures)
+returns-in-Some c =
+    ap (λ (k : ℕ). k + 8) c.lives_at.ensures ∙ ap format_bytes (sym c.in-Some.is ∙ c.format_of.ensures)
 
-pub returns-in-Missing : goal.returns-in-Missing
+pub returns-in-None : goal.returns-in-None
 unfolding header_width
-returns-in-Missing c = ap format_bytes (sym c.in-Missing.is ∙ c.format_of.ensures)
+returns-in-None c = ap format_bytes (sym c.in-None.is ∙ c.format_of.ensures)

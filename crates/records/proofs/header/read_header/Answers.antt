@@ -1,6 +1,6 @@
 -- `records::header::read_header` meets its contract: one law for each way out. Assumes nothing.
+use Rattle.std.specs.Prelude.{Some, None}
 use mathlib.Core.Path.{◌≡◌, sym, ap, ◌∙◌}
-use Rattle.exchange.specs.declared.header.Lookup.TheVariants.{Found, Missing}
 use Rattle.exchange.specs.Formats.{format_of}
 use Rattle.records.specs.Fields.{number16}
 use Rattle.records.proofs.Headers.{header_long, header_short, by_mark}
@@ -18,12 +18,12 @@ returns-then-file-lt-MARK_BYTES c = let a = c.args in header_short a.file.now c.
 mark-is : (c : After-format_of) → format_of (number16 c.args.file.now 0) ≡ c.format_of.result
 mark-is c = sym (c.format_of.ensures ∙ ap format_of c.u16_at.ensures)
 
-pub returns-in-Found : goal.returns-in-Found
-returns-in-Found c =
+pub returns-in-Some : goal.returns-in-Some
+returns-in-Some c =
     let file = c.args.file.now in
-    c.header_by.ensures ∙ by_mark file (search rules) (Found c.in-Found.format) (mark-is (goal.at.returns-in-Found c).After-format_of ∙ c.in-Found.is)
+    c.header_by.ensures ∙ by_mark file (search rules) (Some c.in-Some.format) (mark-is (goal.at.returns-in-Some c).After-format_of ∙ c.in-Some.is)
 
-pub returns-in-Missing : goal.returns-in-Missing
-returns-in-Missing c =
+pub returns-in-None : goal.returns-in-None
+returns-in-None c =
     let file = c.args.file.now in
-    by_mark file (search rules) Missing (mark-is (goal.at.returns-in-Missing c).After-format_of ∙ c.in-Missing.is)
+    by_mark file (search rules) None (mark-is (goal.at.returns-in-None c).After-format_of ∙ c.in-None.is)

@@ -6,8 +6,8 @@ use lib.ListN.{length}
 use Rattle.rewriting.proofs.Progress.{ReadProgress}
 use Rattle.rewriting.proofs.reading.read_words.Given as goal
 
-abbrev pub invariant-loop-call : goal.invariant-loop-call
-invariant-loop-call l = (length l.words ≡ length l.initial.words) × ReadProgress l.from l.file l.initial.words l.words l.at l.end
+abbrev pub invariant-loop-record : goal.invariant-loop-record
+invariant-loop-record l = (length l.words ≡ length l.initial.words) × ReadProgress l.from l.file l.initial.words l.words l.at l.end
 
-abbrev pub decreases-loop-call : goal.decreases-loop-call
-decreases-loop-call l = length l.file - l.at
+abbrev pub decreases-loop-record : goal.decreases-loop-record
+decreases-loop-record l = length l.file - l.at

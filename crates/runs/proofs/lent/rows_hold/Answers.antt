@@ -1,34 +1,25 @@
--- `runs::lent::rows_hold` meets its contract. The invariant: each row passed holds. Assumes nothing.
-use mathlib.Core.Path.{sym, ◌∙◌}
+-- `runs::lent::rows_hold` meets its contract: by what `all` finds, or by the test that fails. Assumes nothing.
+use mathlib.Core.Path.{◌≡◌, refl}
+use mathlib.Core.Bool.{true, false}
 use native.Mathlib.Omega.{arith}
-use borrow.Author.Count.{below_more}
+use borrow.Author.Tests.{tests}
 use Rattle.std.proofs.Common.{rules}
-use Rattle.terms.proofs.Choice.{no_true}
-use Rattle.runs.proofs.Decided.{refused, all_hold, is_row_lem}
+use Rattle.std.proofs.lemmas.Iterator.{cases_from_all, YieldsList-from_range}
+use Rattle.terms.proofs.AllOf.{all_is_each}
+use Rattle.runs.specs.Lent.{row_holds, rows_hold}
+use Rattle.runs.proofs.Decided.{held, not_held}
 use Rattle.runs.proofs.lent.rows_hold.Goals as goal
 
-pub returns-then-runs-ne-RUN_WORDS : goal.returns-then-runs-ne-RUN_WORDS
-returns-then-runs-ne-RUN_WORDS c = refused _ _ _ _ _ (λ v. c.if-runs-ne-RUN_WORDS.true v.size)
+pub returns-then-present-terms : goal.returns-then-present-terms
+returns-then-present-terms c =
+    let a = c.args in
+    let all = all_is_each (row_holds a.n a.runs.now a.terms.now a.present) a.count c.all.result
+    (cases_from_all _ _ _ (λ k. row_holds a.n a.runs.now a.terms.now a.present k ≡ true) (λ k. row_holds a.n a.runs.now a.terms.now a.present k ≡ false) c.all.ensures.ran
+    (YieldsList-from_range 0 a.count a.count refl (omega arith)) (λ x q k. search (rules, tests)) (λ x q k. search (rules, tests))) in
+    held a.n a.runs.now a.count a.terms.now a.present (search rules) (search rules) (search rules) all
 
-pub returns-then-count-gt-MAX_RUNS : goal.returns-then-count-gt-MAX_RUNS
-returns-then-count-gt-MAX_RUNS c = refused _ _ _ _ _ (λ v. omega (arith, v.room))
-
-pub returns-then-terms-present : goal.returns-then-terms-present
-returns-then-terms-present c = refused _ _ _ _ _ (λ v. omega (arith, v.terms_room))
-
-pub loop-r-init : goal.loop-r-init
-loop-r-init c = (search rules, λ k h. absurd (omega arith))
-
-pub returns-then-not-row_holds : goal.returns-then-not-row_holds
-returns-then-not-row_holds c =
-    let r = c.loop-r.r in
-    let h = c.loop-r-test.true in
-    refused _ _ _ _ _
-    (λ v. no_true (sym c.if-not-row_holds.true ∙ c.row_holds.ensures ∙ is_row_lem _ _ _ _ r (v.written r h) (v.holds r h)))
-
-pub loop-r-preserved : goal.loop-r-preserved
-loop-r-preserved c =
-    (search rules, below_more _ _ c.loop-r.invariant.1 (sym c.row_holds.ensures ∙ c.if-not-row_holds.false))
-
-pub returns : goal.returns
-returns c = sym (all_hold _ _ _ _ _ (omega arith) (omega arith) (omega arith) (λ k h. c.loop-r.invariant.1 k (omega arith)))
+pub returns-else-present-terms : goal.returns-else-present-terms
+returns-else-present-terms c =
+    let a = c.args in
+    let no : false ≡ rows_hold a.n a.runs.now a.count a.terms.now a.present = not_held a.n a.runs.now a.count a.terms.now a.present c.if-present-terms.either in
+    cc

@@ -1,11 +1,10 @@
 -- `synthesis::all::compose_all` meets its contract. The invariant: all that can be derived of the first t terms is found.
 -- Assumes nothing.
-use mathlib.Core.Path.{◌≡◌, sym, ◌∙◌, subst}
+use mathlib.Core.Path.{◌≡◌, subst}
 use Prim.Native.Nat.{ℕ}
 use native.Mathlib.Omega.{arith}
 use Rattle.synthesis.specs.All.{FoundTo}
 use Rattle.synthesis.proofs.AllLaws.{found_start, found_kept, found_next}
-use Rattle.synthesis.specs.Knowledge.{wire_in}
 use Rattle.synthesis.proofs.all.compose_all.Goals as goal
 
 pub loop-t-init : goal.loop-t-init
@@ -20,12 +19,9 @@ loop-t-preserved c =
     let here = c.loop-t in
     (omega (arith, c.loop-t-test.true), found_next here.t here.invariant.1 c.compose.ensures)
 
-pub shape_of-known : goal.shape_of-known
-shape_of-known c = c.loop-t.invariant.1.knows.size ∙ sym c.requires.1.size
-
 pub returns : goal.returns
 returns c =
     let here = c.loop-t in
     let a = c.args in
     let last : here.t ≡ a.count = omega (arith, here.invariant.0, c.loop-t-test.false) in
-    subst (λ (t : ℕ). FoundTo a.who.n a.who.flags a.terms.now a.count (wire_in a.known.now) t here.known) last here.invariant.1
+    subst (λ (t : ℕ). FoundTo a.who.n a.who.flags a.terms.now a.count a.known.now.wire t here.known) last here.invariant.1

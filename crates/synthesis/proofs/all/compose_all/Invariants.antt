@@ -2,11 +2,10 @@
 -- Assumes nothing.
 use Prim.Native.Nat.{◌-◌, ◌≤◌}
 use Rattle.synthesis.specs.All.{FoundTo}
-use Rattle.synthesis.specs.Knowledge.{wire_in}
 use Rattle.synthesis.proofs.all.compose_all.Given as goal
 
 abbrev pub invariant-loop-t : goal.invariant-loop-t
-invariant-loop-t l = (l.t ≤ l.count) × FoundTo l.who.n l.who.flags l.terms l.count (wire_in l.initial.known) l.t l.known
+invariant-loop-t l = (l.t ≤ l.count) × FoundTo l.who.n l.who.flags l.terms l.count l.initial.known.wire l.t l.known
 
 abbrev pub decreases-loop-t : goal.decreases-loop-t
 decreases-loop-t l = l.count - l.t

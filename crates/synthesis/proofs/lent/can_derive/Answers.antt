@@ -26,16 +26,10 @@ pub derivable-requires : goal.derivable-requires
 derivable-requires c =
     let a = c.args in
     let h = hold_are a.who.n a.terms.now a.count a.wire.now (held (goal.at.derivable-requires c).Else-not-tables_hold) in
-    (h.0, h.1, h.2, kept_none a.who.n a.who.flags a.terms.now a.count, omega arith)
-
-pub returns-then-derivable : goal.returns-then-derivable
-unfolding can_derive
-returns-then-derivable c =
-    let a = c.args in
-    rw (held (goal.at.returns-then-derivable c).Else-not-tables_hold, lt-ltb a.t a.count (omega arith), ← c.derivable.ensures.0, c.if-derivable.true)
+    (h.0, h.1, h.2, rw c.new-known.ensures (kept_none a.who.n a.who.flags a.terms.now a.count), omega arith)
 
 pub returns : goal.returns
 unfolding can_derive
 returns c =
     let a = c.args in
-    rw (held (goal.at.returns c).Else-not-tables_hold, lt-ltb a.t a.count (omega arith), ← c.derivable.ensures.0, c.if-derivable.false)
+    rw (held (goal.at.returns c).Else-not-tables_hold, lt-ltb a.t a.count (omega arith), c.derivable.ensures.0)

@@ -6,7 +6,7 @@ use Rattle.synthesis.specs.Lent.{tables_hold}
 use Rattle.synthesis.proofs.LentLaws.{hold_are, not_held, other_words, derived}
 use Rattle.std.proofs.Common.{rules}
 use Rattle.synthesis.proofs.lent.derive_terms.Goals as goal
-use Rattle.synthesis.proofs.lent.derive_terms.Goals.{After-derive_all-set, Else-not-tables_hold}
+use Rattle.synthesis.proofs.lent.derive_terms.Goals.{After-derive_all-set, Else-not-tables_hold, then-not-tables_hold-via-then-not-tables_hold, then-not-tables_hold-via-else-not-tables_hold+then-out-ne-WIRE_WORDS}
 
 held : (c : Else-not-tables_hold) → let a = c.args in tables_hold a.who.n a.terms.now a.count a.wire.now ≡ true
 held c = sym c.tables_hold.ensures ∙ c.if-not-tables_hold.false
@@ -17,12 +17,12 @@ eight c = search rules
 pub returns-then-not-tables_hold : goal.returns-then-not-tables_hold
 returns-then-not-tables_hold c =
     let a = c.args in
-    not_held a.who.n a.who.flags a.terms.now a.count a.wire.now a.out.now (sym c.tables_hold.ensures ∙ c.if-not-tables_hold.true)
-
-pub returns-then-out-ne-WIRE_WORDS : goal.returns-then-out-ne-WIRE_WORDS
-returns-then-out-ne-WIRE_WORDS c =
-    let a = c.args in
-    other_words a.who.n a.who.flags a.terms.now a.count a.wire.now a.out.now (held (goal.at.returns-then-out-ne-WIRE_WORDS c).Else-not-tables_hold) c.if-out-ne-WIRE_WORDS.true
+    elim c.then-not-tables_hold.branch [
+      | then-not-tables_hold-via-then-not-tables_hold w ↦
+          not_held a.who.n a.who.flags a.terms.now a.count a.wire.now a.out.now (sym c.tables_hold.ensures ∙ w.if-not-tables_hold.true)
+      | then-not-tables_hold-via-else-not-tables_hold+then-out-ne-WIRE_WORDS w ↦
+          other_words a.who.n a.who.flags a.terms.now a.count a.wire.now a.out.now (sym c.tables_hold.ensures ∙ w.if-not-tables_hold.false) w.if-out-ne-WIRE_WORDS.true
+    ]
 
 pub derive_all-set-requires : goal.derive_all-set-requires
 derive_all-set-requires c =

@@ -1,8 +1,6 @@
 -- `worklist::chains::link` meets its contract: an encryption is linked, another term is not. Assumes nothing.
-use mathlib.Core.Path.{◌≡◌, sym, ap, ◌∙◌, subst}
+use mathlib.Core.Path.{◌≡◌, sym, ap, subst}
 use Prim.Native.Nat.{ℕ, ◌<◌}
-use native.Mathlib.Omega.{arith}
-use lib.ListN.{length-set}
 use Rattle.words.specs.declared.Term.{Term}
 use Rattle.words.specs.declared.Term.TheVariants.{Encrypted}
 use Rattle.terms.specs.Meaning.{Under}
@@ -11,19 +9,16 @@ use Rattle.worklist.specs.Chains.{link_of}
 use borrow.Enum.Refused.{opened}
 use Rattle.worklist.proofs.chains.link.Goals as goal
 
-below : (k n : ℕ) → k < 512 → n ≡ 512 → k < n
-below k n h e = omega arith
-
 key_below : (t : Term) (b k : ℕ) → t ≡ Encrypted b k → Under 512 t → k < 512
 key_below t b k e u = (subst (Under 512) e u).1
 
 pub bounds-chains-k : goal.bounds-chains-k
 bounds-chains-k c =
-    below _ _ (key_below c.args.t _ _ c.in-Encrypted.is c.requires.1) c.requires.0
+    key_below c.args.t _ _ c.in-Encrypted.is c.requires.0
 
 pub bounds-chains-k-in-Encrypted : goal.bounds-chains-k-in-Encrypted
 bounds-chains-k-in-Encrypted c =
-    below _ _ (key_below c.args.t _ _ c.in-Encrypted.is c.requires.1) (length-set c.args.chains.now c.args.i _ ∙ c.requires.0)
+    key_below c.args.t _ _ c.in-Encrypted.is c.requires.0
 
 pub returns-in-Encrypted : goal.returns-in-Encrypted
 returns-in-Encrypted c =

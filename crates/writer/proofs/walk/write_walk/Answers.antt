@@ -1,33 +1,57 @@
--- `writer::walk::write_walk` meets its contract. Assumes nothing.
-use mathlib.Core.Path.{◌≡◌, sym, ◌∙◌}
+-- `writer::walk::write_walk` meets its contract: by the refusal that decides, or by none. Assumes nothing.
+use mathlib.Core.Path.{◌≡◌, sym, refl}
 use lib.ListN.{length}
+use Rattle.refusals.proofs.Numbers.{not_0, passed_up}
 use Rattle.raw_records.specs.Raw.{records_of}
 use Rattle.writer.specs.Write.{write_refusal}
-use Rattle.writer.proofs.Write.{write_refusal_told, zero_passes, refused, written}
+use Rattle.writer.proofs.Write.{by_length, by_header, by_record, by_room, zero_passes, refused, written}
 use Rattle.writer.proofs.walk.write_walk.Goals as goal
-use Rattle.writer.proofs.walk.write_walk.Goals.{After-first-refusal}
+use Rattle.writer.proofs.walk.write_walk.Goals.{In_ok-check_room}
 
--- the refusal, from those that were joined
-told : (f : After-first-refusal) → let a = f.args in
-    f.first-refusal.result ≡ write_refusal a.header (records_of a.words.now) (length a.out.now) a.at
-told f =
-    let a = f.args in
-    write_refusal_told a.header (records_of a.words.now) (length a.out.now) a.at f.measure-bytes.ensures
-    f.length_refusal-by_length.ensures f.header_refusal-by_header.ensures f.first.ensures
-    f.records_refusal-by_record.ensures f.first-2.ensures f.room_refusal-by_room.ensures f.first-refusal.ensures
-
-pub returns-then-refusal-ne0 : goal.returns-then-refusal-ne0
-returns-then-refusal-ne0 c =
+pub returns-in_err-check_length : goal.returns-in_err-check_length
+returns-in_err-check_length c =
     let a = c.args in
-    refused a.header a.words.now a.out.now a.at c.first-refusal.result (told (goal.at.returns-then-refusal-ne0 c).After-first-refusal) c.if-refusal-ne0.true
+    let k = c.in_err-check_length.field-0.0 in
+    rw (passed_up c.from_residual.result k c.from_residual.ensures.1)
+    (refused a.header a.words.now a.out.now a.at _
+    (by_length a.header (records_of a.words.now) (length a.out.now) a.at c.measure-bytes.ensures c.in_err-check_length.ensures (not_0 k)) (not_0 k))
+
+pub returns-in_err-check_header : goal.returns-in_err-check_header
+returns-in_err-check_header c =
+    let a = c.args in
+    let k = c.in_err-check_header.field-0.0 in
+    rw (passed_up c.from_residual-in_err-check_header.result k c.from_residual-in_err-check_header.ensures.1)
+    (refused a.header a.words.now a.out.now a.at _
+    (by_header a.header (records_of a.words.now) (length a.out.now) a.at c.measure-bytes.ensures c.in_ok-check_length.ensures c.in_err-check_header.ensures (not_0 k)) (not_0 k))
+
+pub returns-in_err-check_records : goal.returns-in_err-check_records
+returns-in_err-check_records c =
+    let a = c.args in
+    let k = c.in_err-check_records.field-0.0 in
+    rw (passed_up c.from_residual-in_err-check_records.result k c.from_residual-in_err-check_records.ensures.1)
+    (refused a.header a.words.now a.out.now a.at _
+    (by_record a.header (records_of a.words.now) (length a.out.now) a.at c.measure-bytes.ensures c.in_ok-check_length.ensures c.in_ok-check_header.ensures c.in_err-check_records.ensures (not_0 k)) (not_0 k))
+
+pub returns-in_err-check_room : goal.returns-in_err-check_room
+returns-in_err-check_room c =
+    let a = c.args in
+    let k = c.in_err-check_room.field-0.0 in
+    rw (passed_up c.from_residual-in_err-check_room.result k c.from_residual-in_err-check_room.ensures.1)
+    (refused a.header a.words.now a.out.now a.at _
+    (by_room a.header (records_of a.words.now) (length a.out.now) a.at c.measure-bytes.ensures c.in_ok-check_length.ensures c.in_ok-check_header.ensures c.in_ok-check_records.ensures c.in_err-check_room.ensures) (not_0 k))
+
+-- nothing refuses
+none : (f : In_ok-check_room) → let a = f.args in 0 ≡ write_refusal a.header (records_of a.words.now) (length a.out.now) a.at
+none f =
+    let a = f.args in
+    by_room a.header (records_of a.words.now) (length a.out.now) a.at f.measure-bytes.ensures f.in_ok-check_length.ensures f.in_ok-check_header.ensures f.in_ok-check_records.ensures f.in_ok-check_room.ensures
 
 pub write_file-end-requires : goal.write_file-end-requires
 write_file-end-requires c =
     let a = c.args in
-    (zero_passes a.header (records_of a.words.now) (length a.out.now) a.at (sym (told (goal.at.write_file-end-requires c).After-first-refusal) ∙ c.if-refusal-ne0.false)).room
+    (zero_passes a.header (records_of a.words.now) (length a.out.now) a.at (sym (none (goal.at.write_file-end-requires c).In_ok-check_room))).room
 
 pub returns : goal.returns
 returns c =
     let a = c.args in
-    written a.header a.words.now a.out.now a.at c.first-refusal.result (told (goal.at.returns c).After-first-refusal) c.if-refusal-ne0.false
-    c.write_file-end.ensures
+    written a.header a.words.now a.out.now a.at 0 (none (goal.at.returns c).In_ok-check_room) refl c.write_file-end.ensures

@@ -1,9 +1,0 @@
--- The index goes over the nodes.
-use Rattle.std.proofs.Common.{◌-◌, ◌≤◌}
-use Rattle.term_tables.proofs.calls.draft.Given as goal
-
-abbrev pub invariant-loop-k : goal.invariant-loop-k
-invariant-loop-k l = l.k ≤ 16
-
-abbrev pub decreases-loop-k : goal.decreases-loop-k
-decreases-loop-k l = 16 - l.k

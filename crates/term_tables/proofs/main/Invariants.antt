@@ -1,9 +1,0 @@
--- At most so many lines are read.
-use Rattle.std.proofs.Common.{◌-◌, ◌≤◌}
-use Rattle.term_tables.proofs.main.Given as goal
-
-abbrev pub invariant-loop-i : goal.invariant-loop-i
-invariant-loop-i l = l.i ≤ 65536
-
-abbrev pub decreases-loop-i : goal.decreases-loop-i
-decreases-loop-i l = 65536 - l.i
