@@ -25,19 +25,20 @@ Packs Unknown = ⊥
 -- ---- laws
 
 -- a kind that is none of the seven
-unknown_by : (k l r : ℕ) → 6 < k → term_by k l r ≡ Unknown
-unknown_by zero l r h = absurd (omega arith)
-unknown_by (suc zero) l r h = absurd (omega arith)
-unknown_by (suc (suc zero)) l r h = absurd (omega arith)
-unknown_by (suc (suc (suc zero))) l r h = absurd (omega arith)
-unknown_by (suc (suc (suc (suc zero)))) l r h = absurd (omega arith)
-unknown_by (suc (suc (suc (suc (suc zero))))) l r h = absurd (omega arith)
-unknown_by (suc (suc (suc (suc (suc (suc zero)))))) l r h = absurd (omega arith)
-unknown_by (suc (suc (suc (suc (suc (suc (suc k))))))) l r h = refl
+pub term_unknown : (k l r : ℕ) → 6 < k → term_by k l r ≡ Unknown
+term_unknown zero l r h = absurd (omega arith)
+term_unknown (suc zero) l r h = absurd (omega arith)
+term_unknown (suc (suc zero)) l r h = absurd (omega arith)
+term_unknown (suc (suc (suc zero))) l r h = absurd (omega arith)
+term_unknown (suc (suc (suc (suc zero)))) l r h = absurd (omega arith)
+term_unknown (suc (suc (suc (suc (suc zero))))) l r h = absurd (omega arith)
+term_unknown (suc (suc (suc (suc (suc (suc zero)))))) l r h = absurd (omega arith)
+term_unknown (suc (suc (suc (suc (suc (suc (suc k))))))) l r h = refl
 
-pub term_unknown : (w : ℕ) → 6 < kind_of w → term_of w ≡ Unknown
+-- a word of such a kind
+pub word_unknown : (w : ℕ) → 6 < kind_of w → term_of w ≡ Unknown
 unfolding term_of
-term_unknown w h = unknown_by (kind_of w) (left_of w) (right_of w) h
+word_unknown w h = term_unknown (kind_of w) (left_of w) (right_of w) h
 
 -- whether a number is a kind's
 pub read_fails : (n : ℕ) (r : Result Kind UnknownKind) → KindRead n r → is_err r ≡ true → 6 < n

@@ -41,13 +41,13 @@ impl TryFrom<u64> for Kind {
 
     fn try_from(number: u64) -> Result<Kind, UnknownKind> {
         match number {
-            0 => Ok(Kind::Principal),
-            1 => Ok(Kind::Time),
-            2 => Ok(Kind::Nonce),
-            3 => Ok(Kind::LongTermKey),
-            4 => Ok(Kind::SessionKey),
-            5 => Ok(Kind::Pair),
-            6 => Ok(Kind::Encrypted),
+            PRINCIPAL => Ok(Kind::Principal),
+            TIME => Ok(Kind::Time),
+            NONCE => Ok(Kind::Nonce),
+            LONG_TERM_KEY => Ok(Kind::LongTermKey),
+            SESSION_KEY => Ok(Kind::SessionKey),
+            PAIR => Ok(Kind::Pair),
+            ENCRYPTED => Ok(Kind::Encrypted),
             _ => Err(UnknownKind(number)),
         }
     }

@@ -2,7 +2,7 @@
 use mathlib.Core.Path.{◌≡◌, ap, sym}
 use Prim.Native.Nat.{ℕ}
 use Rattle.words.specs.Word.{kind_of, left_of, right_of, term_by, term_of}
-use Rattle.words.proofs.Word.{term_unknown}
+use Rattle.words.proofs.Word.{word_unknown}
 use Rattle.words.proofs.TermFromU64.from.Goals as goal
 
 -- the term of a word whose kind is known
@@ -32,4 +32,4 @@ pub returns-in-Ok-Encrypted : goal.returns-in-Ok-Encrypted
 returns-in-Ok-Encrypted c = known c.args.word 6 (rw c.in-Ok-Encrypted.field-0-is at c.in-Ok-Encrypted.ensures)
 
 pub returns-in-Err : goal.returns-in-Err
-returns-in-Err c = sym (term_unknown c.args.word c.in-Err.ensures.1)
+returns-in-Err c = sym (word_unknown c.args.word c.in-Err.ensures.1)
