@@ -98,14 +98,16 @@ pub fn print_refused(number: u8) {
 pub fn print_derivable(answer: Result<bool, Refusal>) {
     match answer {
         Ok(true) => {
-            io::write_all(STDOUT, b": derivable");
+            io::write_all(STDOUT, b": derivable\n");
         }
         Ok(false) => {
-            io::write_all(STDOUT, b": not derivable");
+            io::write_all(STDOUT, b": not derivable\n");
         }
-        Err(refusal) => print_refused(u8::from(refusal)),
+        Err(refusal) => {
+            print_refused(u8::from(refusal));
+            io::write_all(STDOUT, b"\n");
+        }
     }
-    io::write_all(STDOUT, b"\n");
 }
 
 // Writes each place of a table that has changed, with its word in base 16.
