@@ -1,4 +1,4 @@
--- What the crate promises beside the contracts of its functions, which say that `raw_at` gives `raw_at` and `records_refusal` gives
+-- What the crate promises beside the contracts of its functions, which say that `raw_at` gives `raw_at` and that `check_records` gives
 -- `records_refusal` of the lent words. Raw and Refusals have the definitions, Calls says which calls the records are.
 -- Assumes nothing.
 use Rattle.std.specs.Prelude.{◌≡◌, cond, List, ℕ, ◌^◌, ◌<◌, ◌≤◌}
