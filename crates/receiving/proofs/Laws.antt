@@ -1,7 +1,7 @@
 -- Each way out of the steps that take a message, and that what they narrow fits a byte.
 -- Assumes nothing.
-use Rattle.std.specs.Prelude.{ℕ, ◌<◌, ◌≤◌, true, false, not, ◌&&◌, List, ◌≡◌, ◌≢◌, ◌⊎◌, eqb, Ok, Err, None, Some}
-use Rattle.std.proofs.Common.{sym, ap, arith, inl, inr}
+use Rattle.std.specs.Prelude.{ℕ, ◌<◌, ◌≤◌, true, false, not, ◌&&◌, List, ◌≡◌, eqb, Ok, Err, None, Some}
+use Rattle.std.proofs.Common.{sym, ap, arith}
 use borrow.Author.Tests.{lt-ltb, le-ltb, eq-eqb, ne_eqb}
 use Rattle.terms.specs.Meaning.{message_at}
 use Rattle.terms.specs.Number.{number_in, terms_of}
@@ -27,36 +27,7 @@ use Rattle.decisions.proofs.Laws.Forms.{grant_key}
 use Rattle.messages.proofs.Parts.{number_here}
 use Rattle.decisions.specs.Decision.{need, issues, authenticates, takes, finishes}
 
--- ---- two numbers or three, compared one after the other
-
--- what `if` knows of its branches, as the test that a definition makes
-module _ {a x b y : ℕ} where
-  pub both : a ≡ x → b ≡ y → (eqb a x && eqb b y) ≡ true
-  both e f = rw (eq-eqb a x e, eq-eqb b y f)
-
-  pub one_differs : (a ≢ x) ⊎ ((a ≡ x) × (b ≢ y)) → (eqb a x && eqb b y) ≡ false
-  one_differs (inl n) = rw (ne_eqb a x n)
-  one_differs (inr (e, n)) = rw (eq-eqb a x e, ne_eqb b y n)
-
-pub all_three : {a x b y c z : ℕ} → a ≡ x → b ≡ y → c ≡ z → (eqb a x && eqb b y && eqb c z) ≡ true
-all_three {a} {x} e f g = rw (eq-eqb a x e) (both f g)
-
-pub one_of_three_differs : {a x b y c z : ℕ} → (a ≢ x) ⊎ (((a ≡ x) × (b ≢ y)) ⊎ ((a ≡ x) × (b ≡ y) × (c ≢ z)))
-    → (eqb a x && eqb b y && eqb c z) ≡ false
-one_of_three_differs {a} {x} (inl n) = rw (ne_eqb a x n)
-one_of_three_differs {a} {x} (inr (inl (e, n))) = rw (eq-eqb a x e) (one_differs (inl n))
-one_of_three_differs {a} {x} (inr (inr (e, f, n))) = rw (eq-eqb a x e) (one_differs (inr (f, n)))
-
 -- ---- step 3
-
-module _ {a b : ℕ} where
-  pub principals_apart : a ≢ 0 → b ≢ 0 → a ≢ b → (not (eqb a 0) && not (eqb b 0) && not (eqb a b)) ≡ true
-  principals_apart f g n = rw (ne_eqb a 0 f, ne_eqb b 0 g, ne_eqb a b n)
-
-  pub principals_barred : (a ≡ 0) ⊎ (((a ≢ 0) × (b ≡ 0)) ⊎ ((a ≢ 0) × (b ≢ 0) × (a ≡ b))) → (not (eqb a 0) && not (eqb b 0) && not (eqb a b)) ≡ false
-  principals_barred (inl e) = rw (eq-eqb a 0 e)
-  principals_barred (inr (inl (f, e))) = rw (ne_eqb a 0 f, eq-eqb b 0 e)
-  principals_barred (inr (inr (f, g, e))) = rw (ne_eqb a 0 f, ne_eqb b 0 g, eq-eqb a b e)
 
 module _ (h : Realm) (ts ws : List ℕ) (m : ℕ) where
   pub no_room_to_issue : 64 ≤ h.runs → Err 13 ≡ issues h ts ws m

@@ -2,7 +2,7 @@
 // step's form gets 14. Whether the intruder can deliver it, 15, is left open here.
 #![tactic(auto)]
 
-ghost use Rattle.std.specs.Prelude.{List, ◌≡◌, ℕ, ◌<◌, ◌≤◌};
+ghost use Rattle.std.specs.Prelude.{List, ◌≡◌, ℕ, ◌<◌, ◌≤◌, eqb, not, ◌&&◌};
 ghost use Rattle.terms.specs.Valid.{Valid};
 ghost use Rattle.conditions.specs.Conditions.{derivable_at};
 ghost use Rattle.decisions.specs.Decision.{issues, authenticates, takes, finishes};
@@ -31,6 +31,34 @@ pub enum Pending {
     Asked(Result<Effect, Refusal>),
 }
 
+// Whether a request may name these: neither is the server, and they are unequal.
+fn can_ask(a: u16, b: u16) -> bool
+    ensures { result ≡ (not (eqb a 0) && not (eqb b 0) && not (eqb a b)) }
+{
+    a != 0 && b != 0 && a != b
+}
+
+// Whether a reply of these values is to the request of the run: of its own principals and nonce.
+fn replies_to(own: Row, run: u8, a: u16, b: u16, n: u16) -> bool
+    ensures { result ≡ (eqb b own.b && eqb n run && eqb a own.a) }
+{
+    b == own.b as u16 && n == run as u16 && a == own.a as u16
+}
+
+// Whether the principals are the run's own.
+fn is_between(own: Row, a: u16, b: u16) -> bool
+    ensures { result ≡ (eqb a own.a && eqb b own.b) }
+{
+    a == own.a as u16 && b == own.b as u16
+}
+
+// Whether the time and the key are the run's own.
+fn confirms(own: Row, ta: u32, k: u16) -> bool
+    ensures { result ≡ (eqb ta own.ta && eqb k own.k) }
+{
+    ta == own.ta && k == own.k as u16
+}
+
 // Step 3: the server answers a request.
 pub fn issue(h: Realm, terms: &[u64], m: u16) -> Result<Pending, Refusal>
     requires { Valid h.n terms.now h.terms × (m < h.terms) }
@@ -42,7 +70,7 @@ pub fn issue(h: Realm, terms: &[u64], m: u16) -> Result<Pending, Refusal>
     let Some(Request { a, b, n }) = open_request(terms, m) else {
         return Err(Refusal::Form);
     };
-    if a == 0 || b == 0 || a == b {
+    if !can_ask(a, b) {
         return Err(Refusal::Form);
     }
     let r = h.runs as u8;
@@ -62,7 +90,7 @@ pub fn authenticate(h: Realm, terms: &[u64], run: u8, own: Row, m: u16) -> Resul
     let Some(Grant { k, b, ts, n, a, x }) = open_grant(form, terms, m) else {
         return Err(Refusal::Form);
     };
-    if b != own.b as u16 || n != run as u16 || a != own.a as u16 {
+    if !replies_to(own, run, a, b, n) {
         return Err(Refusal::Form);
     }
     if !ticket_lives(h, ts) {
@@ -87,7 +115,7 @@ pub fn accept(
     let Some(Delivery { k, a, ts, b, ta }) = open_delivery(terms, m) else {
         return Err(Refusal::Form);
     };
-    if a != own.a as u16 || b != own.b as u16 {
+    if !is_between(own, a, b) {
         return Err(Refusal::Form);
     }
     if let Err(refusal) = admit(h, cache, ts, Entry { b, k, ta }) {
@@ -105,7 +133,7 @@ pub fn finish(h: Realm, terms: &[u64], run: u8, own: Row, m: u16) -> Result<Pend
     let Some(Confirmation { ta, k }) = open_confirmation(terms, m) else {
         return Err(Refusal::Form);
     };
-    if ta != own.ta || k != own.k as u16 {
+    if !confirms(own, ta, k) {
         return Err(Refusal::Form);
     }
     if !ticket_lives(h, own.ts) {

@@ -7,7 +7,7 @@ use Rattle.terms.specs.Meaning.{message_at}
 use Rattle.forms.specs.Forms.{request_in}
 use Rattle.conditions.specs.Conditions.{derivable_at}
 use Rattle.decisions.specs.Decision.{need}
-use Rattle.receiving.proofs.Laws.{no_room_to_issue, no_request, request_barred, request_asked, request_in_range, principals_apart, principals_barred}
+use Rattle.receiving.proofs.Laws.{no_room_to_issue, no_request, request_barred, request_asked, request_in_range}
 use Rattle.receiving.proofs.issue.Goals as goal
 use Rattle.receiving.proofs.issue.Goals.{In-Some}
 
@@ -23,10 +23,10 @@ returns-in_default c ws =
     let a = c.args in
     no_request a.h a.terms.now ws a.m c.if-h-ge-MAX_RUNS.false (sym c.open_request.ensures ∙ c.in_default.is)
 
-pub returns-then-a-eq0 : goal.returns-then-a-eq0
-returns-then-a-eq0 c ws =
+pub returns-then-not-can_ask : goal.returns-then-not-can_ask
+returns-then-not-can_ask c ws =
     let a = c.args in
-    request_barred a.h a.terms.now ws a.m c.if-h-ge-MAX_RUNS.false c.in-Some.field-0 (is (goal.at.returns-then-a-eq0 c).In-Some) (principals_barred c.then-a-eq0.either)
+    request_barred a.h a.terms.now ws a.m c.if-h-ge-MAX_RUNS.false c.in-Some.field-0 (is (goal.at.returns-then-not-can_ask c).In-Some) (sym c.can_ask.ensures ∙ c.if-not-can_ask.true)
 
 pub overflow_cast-initiator : goal.overflow_cast-initiator
 overflow_cast-initiator c =
@@ -40,4 +40,4 @@ pub returns : goal.returns
 returns c ws =
     let a = c.args in
     ap (need (derivable_at a.h a.terms.now ws a.m) 15) (ap Ok c.issued-effect.ensures)
-    ∙ request_asked a.h a.terms.now ws a.m c.if-h-ge-MAX_RUNS.false c.in-Some.field-0 (is (goal.at.returns c).In-Some) (principals_apart c.if-a-eq0.false c.if-b-eq0.false c.if-a-b.false) _ c.form_of-form.ensures
+    ∙ request_asked a.h a.terms.now ws a.m c.if-h-ge-MAX_RUNS.false c.in-Some.field-0 (is (goal.at.returns c).In-Some) (sym c.can_ask.ensures ∙ c.if-not-can_ask.false) _ c.form_of-form.ensures
