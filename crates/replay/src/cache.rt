@@ -33,7 +33,7 @@ impl Cache {
     fn has(self, e: Entry) -> bool
         ensures { result ≡ present (entries self.places self.count) e }
     {
-        self.places[..self.count].contains(&e)
+        self.places[..self.count].iter().any(|x| *x == e)
     }
 
     // Whether `e` can be put behind the entries. Refused: 18 and 19.
