@@ -12,12 +12,12 @@ use Rattle.records.specs.Headers.{max_file, header_width}
 use Rattle.raw_records.specs.declared.raw.RawRecord.{RawRecord}
 use Rattle.raw_records.specs.Raw.{records_of}
 use Rattle.raw_records.specs.Refusals.{first, first_of, records_refusal}
-use Rattle.raw_records.proofs.Refusals.{first_some, first_none, first_zero}
+use Rattle.raw_records.proofs.Refusals.{first_zero}
 use Rattle.fields.specs.Placed.{Wrote}
 use Rattle.writer.specs.File.{header_in_bytes, records_in_bytes, file_of}
 use Rattle.writer.specs.Progress.{Measures}
 use Rattle.writer.proofs.Progress.{header_long}
-use Rattle.writer.specs.Write.{write_outcome, length_refusal, room_refusal, write_refusal, by_refusal, write_of, WalkPasses}
+use Rattle.writer.specs.Write.{write_outcome, length_refusal, room_refusal, measured_refusal, write_refusal, by_refusal, write_of, WalkPasses}
 
 -- ---- laws: by the way out
 
@@ -35,12 +35,9 @@ pub file_length : (g : Header) (raws : List (Option RawRecord)) → length (file
 unfolding file_of
 file_length g raws = length-append (header_in_bytes g) (records_in_bytes raws) ∙ ap (λ (k : ℕ). k + length (records_in_bytes raws)) (header_long g)
 
--- the first of some numbers that is not 0, where it is the first of all, and where it stands behind a 0
-here : {a k : ℕ} (rest : List ℕ) → k ≡ a → (k ≡ 0 → ⊥) → k ≡ first_of (a ∷ rest)
-here {a} {k} rest e n = first_some k (first_of rest) n ∙ ap (λ (j : ℕ). first j (first_of rest)) e
-
-later : {a k : ℕ} (rest : List ℕ) → 0 ≡ a → k ≡ first_of rest → k ≡ first_of (a ∷ rest)
-later {a} {k} rest z e = e ∙ ap (λ (j : ℕ). first j (first_of rest)) z
+-- of two numbers the second, where the first is 0
+pub first_later : (a b : ℕ) → a ≡ 0 → first a b ≡ b
+first_later a b z = rw z refl
 
 -- a length above the limit decides, whatever it is
 long_decides : (bytes whole header raws places at : ℕ) → Measures bytes whole
@@ -54,28 +51,10 @@ long_decides bytes whole header raws places at m = on (ltb max_file whole) refl
 
 module _ (g : Header) (raws : List (Option RawRecord)) (places at : ℕ) {bytes : ℕ} (m : Measures bytes (header_width g.mark + length (records_in_bytes raws))) where
   -- the refusals, by the bytes that the code measures
-  pub by_measure : first_of (length_refusal bytes ∷ header_refusal g ∷ records_refusal g.n raws ∷ room_refusal places at bytes ∷ []) ≡ write_refusal g raws places at
+  pub by_measure : measured_refusal bytes g raws places at ≡ write_refusal g raws places at
   unfolding write_refusal
   by_measure =
       rw (file_length g raws) (long_decides bytes (header_width g.mark + length (records_in_bytes raws)) (header_refusal g) (records_refusal g.n raws) places at m)
-
-  -- the first that is not 0 decides
-  pub by_length : {k : ℕ} → k ≡ length_refusal bytes → (k ≡ 0 → ⊥) → k ≡ write_refusal g raws places at
-  by_length {k} e n = here (header_refusal g ∷ records_refusal g.n raws ∷ room_refusal places at bytes ∷ []) e n ∙ by_measure
-
-  pub by_header : {k : ℕ} → 0 ≡ length_refusal bytes → k ≡ header_refusal g → (k ≡ 0 → ⊥) → k ≡ write_refusal g raws places at
-  by_header {k} z e n = later (header_refusal g ∷ records_refusal g.n raws ∷ room_refusal places at bytes ∷ []) z (here (records_refusal g.n raws ∷ room_refusal places at bytes ∷ []) e n) ∙ by_measure
-
-  pub by_record : {k : ℕ} → 0 ≡ length_refusal bytes → 0 ≡ header_refusal g → k ≡ records_refusal g.n raws → (k ≡ 0 → ⊥) → k ≡ write_refusal g raws places at
-  by_record {k} z y e n =
-      later (header_refusal g ∷ records_refusal g.n raws ∷ room_refusal places at bytes ∷ []) z
-      (later (records_refusal g.n raws ∷ room_refusal places at bytes ∷ []) y (here (room_refusal places at bytes ∷ []) e n)) ∙ by_measure
-
-  pub by_room : {k : ℕ} → 0 ≡ length_refusal bytes → 0 ≡ header_refusal g → 0 ≡ records_refusal g.n raws → k ≡ room_refusal places at bytes → k ≡ write_refusal g raws places at
-  by_room {k} z y x e =
-      later (header_refusal g ∷ records_refusal g.n raws ∷ room_refusal places at bytes ∷ []) z
-      (later (records_refusal g.n raws ∷ room_refusal places at bytes ∷ []) y
-      (later (room_refusal places at bytes ∷ []) x (e ∙ sym (first_none (room_refusal places at bytes))))) ∙ by_measure
 
 picked_zero : (t : Bool) (k : ℕ) → ◌≡◌ {A = ℕ} (cond t 0 (suc k)) 0 → t ≡ true
 picked_zero true k e = refl

@@ -34,6 +34,11 @@ write_refusal g raws places at =
     let bytes : ℕ = length (file_of g raws) in
     first_of (length_refusal bytes ∷ header_refusal g ∷ records_refusal g.n raws ∷ room_refusal places at bytes ∷ [])
 
+-- the same of the bytes that are measured, which are too many where the file has too many
+abbrev pub measured_refusal : (bytes : ℕ) (g : Header) (raws : List (Option RawRecord)) (places at : ℕ) → ℕ
+measured_refusal bytes g raws places at =
+    first_of (length_refusal bytes ∷ header_refusal g ∷ records_refusal g.n raws ∷ room_refusal places at bytes ∷ [])
+
 -- "puts a header and a list of records into bytes .. and gives back the count written"; "Refused, with every byte of the buffer kept"
 abbrev pub by_refusal : (refusal : ℕ) (buffer : List ℕ) (at : ℕ) (file : List ℕ) → WriteOutcome
 by_refusal zero buffer at file = write_outcome (Ok (length file)) (placed buffer at file)

@@ -5,7 +5,7 @@ ghost use Rattle.fields.specs.Placed.{Wrote};
 ghost use Rattle.records.specs.Headers.{header_width};
 ghost use Rattle.raw_records.specs.Raw.{records_of};
 ghost use Rattle.writer.specs.File.{records_in_bytes, file_of};
-ghost use Rattle.writer.specs.Write.{length_refusal, room_refusal, write_outcome, write_of};
+ghost use Rattle.writer.specs.Write.{length_refusal, room_refusal, measured_refusal, write_outcome, write_of};
 ghost use Rattle.writer.specs.Progress.{Measures};
 
 use super::record::{record_width, write_header, write_record};
@@ -49,6 +49,23 @@ fn check_room(places: usize, at: usize, bytes: usize) -> Result<(), Refusal>
     Ok(())
 }
 
+// All that is looked at, one after another: the first that refuses decides.
+#[tactic(auto, using(crate::proofs::Write::first_later, raw_records::proofs::Refusals::first_some, raw_records::proofs::Refusals::first_none, refusals::proofs::Numbers::not_0))]
+fn check_walk(
+    header: Header,
+    words: &[u32],
+    places: usize,
+    at: usize,
+    bytes: usize,
+) -> Result<(), Refusal>
+    ensures { number_of result ≡ measured_refusal bytes header (records_of words.now) places at }
+{
+    check_length(bytes)?;
+    check_header(header)?;
+    check_records(words, header.n)?;
+    check_room(places, at, bytes)
+}
+
 // The records, one after another; each is lent the buffer's part from where the one before it ended.
 fn write_records(out: &mut [u8], at: usize, words: &[u32]) -> usize
     requires { at + length (records_in_bytes (records_of words.now)) ≤ length out.old }
@@ -83,10 +100,7 @@ pub fn write_walk(
     ensures { write_outcome (numbered result) out.new ≡ write_of header words.now out.old at }
 {
     let bytes = measure(header.mark, words);
-    check_length(bytes)?;
-    check_header(header)?;
-    check_records(words, header.n)?;
-    check_room(out.len(), at, bytes)?;
+    check_walk(header, words, out.len(), at, bytes)?;
     let end = write_file(out, at, header, words);
     Ok(end - at)
 }
