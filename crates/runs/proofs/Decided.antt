@@ -2,6 +2,7 @@
 -- test to the record, `is_x` and `are-x` from the record to the test.
 -- Assumes nothing.
 use Rattle.std.specs.Prelude.{◌≡◌, refl, Bool, false, not, List, ℕ, ◌*◌, ◌<◌, ◌≤◌, ltb, leb, eqb, length, Option, Some, None}
+use Rattle.std.specs.Option.{is_some}
 use Rattle.std.proofs.Common.{sym, ap, ◌∙◌, arith, ◌⊎◌, inl, inr}
 use Rattle.std.proofs.Math.Bool.{true}
 use borrow.Author.Tests.{ltb-true, leb-true, eqb-true, eqb-false, not-true, lt-ltb, le-leb, eq-eqb, ne_eqb}
@@ -23,6 +24,11 @@ use Rattle.rows.proofs.Runs.{words_length, run_fits}
 use Rattle.runs.specs.Lent.{has_stage, PrincipalsFit, KeyStands, RunHolds, Written, RowsHold, principals_fit, key_stands, key_holds, run_holds, row_holds, rows_hold}
 
 -- ---- the key
+
+-- something is what is not nothing
+pub some_is : (f : Option ℕ) → is_some f ≡ not (is_nothing f)
+some_is (Some i) = refl
+some_is None = refl
 
 pub key_found : (ts : List ℕ) (count k : ℕ) (f : Option ℕ) → find_of ts count (word_of (SessionKey k)) ≡ f → key_stands ts count k ≡ not (is_nothing f)
 unfolding key_stands

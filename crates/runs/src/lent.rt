@@ -29,6 +29,7 @@ fn has_stage(role: Role, stage: Stage) -> bool
 }
 
 // Whether session key k is a term.
+#[tactic(auto, using(crate::proofs::Decided::some_is), unfolding(crate::specs::Lent::key_stands))]
 fn key_stands(terms: &[u64], present: usize, k: u8) -> bool
     requires { present ≤ length terms.now }
     ensures { result ≡ key_stands terms.now present k }
