@@ -34,12 +34,12 @@ pub fn open_request(terms: &[u64], m: u16) -> Option<Request>
 
 // What is read of {K, b, Ts, ..} under a's key, and the number of the term that is left.
 #[derive(Clone, Copy)]
-struct Reply {
-    k: u16,
-    b: u16,
-    ts: u32,
-    a: u16,
-    rest: u16,
+pub struct Reply {
+    pub k: u16,
+    pub b: u16,
+    pub ts: u32,
+    pub a: u16,
+    pub rest: u16,
 }
 
 fn open_reply(terms: &[u64], m: u16) -> Option<Reply>
