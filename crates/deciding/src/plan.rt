@@ -64,7 +64,8 @@ fn issue_draft(form: Form, k: u16, a: u16, b: u16, ts: u32, n: u16) -> [Node; 16
     }
 }
 
-// The messages, laid out.
+// The messages, laid out. Apart from what calls it, so that a step that sends nothing does not clear the draft.
+#[inline(never)]
 fn draft_of(sends: Sends) -> [Node; 16]
     ensures { result ≡ draft_of sends }
 {
@@ -93,7 +94,7 @@ pub fn plan_sends(terms: &[u64], count: usize, sends: Sends, words: &mut [u64]) 
     match roots_of(sends) {
         Some(roots) => {
             let draft = draft_of(sends);
-            plan_messages(terms, count, draft, roots.first, roots.last, words)
+            plan_messages(terms, count, &draft, roots.first, roots.last, words)
         }
         None => Prepared {
             count: 0,

@@ -36,7 +36,7 @@ pub fn add_message(
         return Err(Refusal::Range);
     }
     let mut plan = Plan::new();
-    let number = plan.add_node(terms, count, draft, root);
+    let number = plan.add_node(terms, count, &draft, root);
     let all = count + plan.count;
     if MAX_TERMS < all {
         return Err(Refusal::TermsFull);

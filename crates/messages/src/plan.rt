@@ -56,9 +56,9 @@ impl Plan {
 
     // Plans the message of node k: its operands' messages, left before right, body before key, and then its own term. The
     // operands are earlier nodes.
-    pub fn add_node(&mut self, terms: &[u64], count: usize, draft: [Node; 16], k: usize) -> u16
-        requires { Ready terms.now count draft self.old × (k < 16) }
-        ensures { NodePlanned terms.now count draft k self.old result self.new }
+    pub fn add_node(&mut self, terms: &[u64], count: usize, draft: &[Node; 16], k: usize) -> u16
+        requires { Ready terms.now count draft.now self.old × (k < 16) }
+        ensures { NodePlanned terms.now count draft.now k self.old result self.new }
     {
         let seen = self.numbers[k];
         if seen != 0 {

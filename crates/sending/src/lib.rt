@@ -27,16 +27,18 @@ pub struct Prepared {
 }
 
 // Plans the messages of two nodes of a draft in `words`; a step that sends one message names its node twice.
+// Apart from what calls it, so that a step that sends nothing does not clear the plan.
+#[inline(never)]
 pub fn plan_messages(
     terms: &[u64],
     count: usize,
-    draft: [Node; 16],
+    draft: &[Node; 16],
     first: usize,
     last: usize,
     words: &mut [u64],
 ) -> Prepared
-    requires { Plannable terms.now count draft first last × (length words.old ≡ 32) }
-    ensures { PlanFor terms.now count (draft_message (message_at terms.now) draft first ∷ draft_message (message_at terms.now) draft last ∷ []) words.new result }
+    requires { Plannable terms.now count draft.now first last × (length words.old ≡ 32) }
+    ensures { PlanFor terms.now count (draft_message (message_at terms.now) draft.now first ∷ draft_message (message_at terms.now) draft.now last ∷ []) words.new result }
 {
     let mut plan = Plan::new();
     let first = plan.add_node(terms, count, draft, first);
